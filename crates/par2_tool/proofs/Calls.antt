@@ -1,14 +1,15 @@
 -- The number of writing calls to a store.
-use Rattle.par2_tool.proofs.Common.{◌≡◌, inr, ℕ, ◌+◌, List, length, Some, Result, Ok, Err, refl, sym, ap, subst, ◌∙◌, arith, Change, Action, Do, Verify, Folder, Opens, Halfway, Started, journals_of, Session, KeptSession, changes_requested, session_of_kept, Contents, action_of, Two, Ready, changes_by_kind, AreSpelled, Plan, Journals, AreAtMost, AreCallsToOpen, AreCallsToRun, CountsCalls, CountsFailedRun, CountsOpening, IsCalled, calls_requested, calls_to_write, calls_unless, IsOpening, WasRead, StandsFor, IsVerify, IsSession, failure_for, unopened_as, OpenFault, PerformFault}
+use Rattle.par2_tool.proofs.Common.{◌≡◌, inr, ℕ, ◌+◌, List, length, Some, Result, Ok, Err, refl, ap, ◌∙◌, arith, Change, Action, Do, Verify, Folder, Opens, Halfway, Started, journals_of, Session, KeptSession, changes_requested, session_of_kept, Contents, action_of, Two, Ready, changes_by_kind, AreSpelled, Plan, Journals, AreAtMost, AreCallsToOpen, CountsCalls, IsOpening, WasRead, StandsFor, IsVerify, unopened_as, AreCallsToRun, CountsFailedRun, calls_requested, calls_unless, failure_for, calls_before, OpenFault, PerformFault, SessionFault}
 use Rattle.par2_spec.specs.declared.commands.Action as requested
 use Rattle.par2_tool.specs.declared.performing.PerformFault.TheVariants.{Session as Refusing, Store}
+use Rattle.par2_tool.proofs.Openings.{is_halfway}
 use Rattle.par2_tool.proofs.Stops.{IsMadeReady, requested_of_mid}
 
 -- ---- an action
 
 -- what was prepared needs the calls of the requested changes
 pub ready_calls : (action : Action) (old : KeptSession) (ready : Ready) (mid : KeptSession) → IsMadeReady action old ready mid → (journals : Journals) → AreSpelled journals (journals_of Two (session_of_kept mid) action (changes_by_kind ready.kind mid))
-    → calls_to_write journals (length (changes_by_kind ready.kind mid)) ≡ calls_unless (changes_requested (session_of_kept old) action)
+    → calls_before journals.halfway + (length (changes_by_kind ready.kind mid) + 1) ≡ calls_unless (changes_requested (session_of_kept old) action)
 ready_calls action old ready mid made journals spelled = unfold journals_of in grind (arith, requested_of_mid)
 
 -- any action but a verify makes the calls of its changes
@@ -23,34 +24,18 @@ for_verify P so action is = grind arith
 
 -- a halfway command was taken back, wherever that stopped
 pub back_calls : {T : Type 0} (contents : Contents) (files : Folder) (bytes : List ℕ) (s : Session) (back : List Change) (before after : ℕ) (r : Result T OpenFault) → WasRead contents files (Some bytes) → Opens files bytes (Ok (Halfway s back))
-    → CountsCalls (length back + 1) before after r → CountsOpening contents before after r
-back_calls contents files bytes s back before after r read opens counted = (
-  length back + 1,
-  inr (
-    back,
-    record {
-      bytes = bytes;
-      session = s;
-      journal = ap (λ (k : Contents). k.journal) read;
-      halfway = subst (λ f. Opens f bytes (Ok (Halfway s back))) (sym (ap (λ (k : Contents). k.files) read)) opens;
-    },
-    refl,
-  ),
-  counted,
-)
-
--- a refusal is passed on
-pub refused_calls : {T : Type 0} (calls before after : ℕ) (r : Result T OpenFault) (e y : OpenFault) → r ≡ Err y → y ≡ e → IsCalled calls before after e → CountsCalls calls before after r
-refused_calls calls before after r e y is same called = subst (λ x. CountsCalls calls before after x) (sym (is ∙ ap Err same)) (record { opened = tt; refused = called })
+    → CountsCalls (length back + 1) before after r → (calls : ℕ) × AreCallsToOpen contents calls × CountsCalls calls before after r
+back_calls contents files bytes s back before after r read opens counted =
+    (length back + 1, inr (s, back, is_halfway contents files bytes s back read opens, refl), counted)
 
 -- ---- a run
 
 -- the session that gives the same outcome as the opened one needs the same number of calls
-pub stands_calls : (action : Action) (o s : Started) → StandsFor action o s → calls_requested s.session action ≡ calls_requested o.session action
+pub stands_calls : (action : Action) (o s : Started) → StandsFor (IsVerify action) o s → calls_requested s.session action ≡ calls_requested o.session action
 stands_calls action o s h = grind arith
 
 -- an opening that is refused
-pub opening_calls : {T : Type 0} (action : Action) (old : Contents) (before after : ℕ) (e : OpenFault) → CountsOpening {T = T} old before after (Err e) → CountsFailedRun action old before after (unopened_as e)
+pub opening_calls : {T : Type 0} (action : Action) (old : Contents) (before after : ℕ) (e : OpenFault) → (calls : ℕ) × AreCallsToOpen old calls × CountsCalls {T = T} calls before after (Err e) → CountsFailedRun action old before after (unopened_as e)
 opening_calls action old before after e counted = grind arith
 
 module _ (action : Action) (old : Contents) (before mid after opening : ℕ) (o : Started) (s : Session) (takes : AreCallsToOpen old opening) (opens : IsOpening old (Ok o)) (counted : mid ≡ before + opening) (alike : calls_requested s action ≡ calls_requested o.session action) where
@@ -58,8 +43,8 @@ module _ (action : Action) (old : Contents) (before mid after opening : ℕ) (o 
   run_calls = record { opening = opening; opens_by = takes; started = o; opens = opens; sum = ap (λ n. opening + n) alike }
 
   -- an action that is refused once the store is opened
-  pub perform_calls : (fault : PerformFault) → AreAtMost (calls_requested s action) mid after → (IsSession fault → after ≡ mid) → CountsFailedRun action old before after (failure_for fault)
+  pub perform_calls : (fault : PerformFault) → AreAtMost (calls_requested s action) mid after → ((reason : SessionFault) → fault ≡ Refusing reason → after ≡ mid) → CountsFailedRun action old before after (failure_for fault)
   perform_calls Store most same =
       (opening + calls_requested s action, inr run_calls, record { later = omega (arith, counted, most.later); within = omega (arith, counted, most.within) })
-  perform_calls (Refusing (Plan fault)) most same = (opening, takes, same tt ∙ counted)
-  perform_calls fault most same = (opening, takes, same tt ∙ counted)
+  perform_calls (Refusing (Plan fault)) most same = (opening, takes, same _ refl ∙ counted)
+  perform_calls fault most same = (opening, takes, same _ refl ∙ counted)

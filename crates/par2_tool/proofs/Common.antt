@@ -1,12 +1,11 @@
--- Names from elsewhere that the proofs of this crate use.
+-- The names that proofs of this crate take from elsewhere.
 
 pub use Rattle.std.proofs.Common.{Bool, Err, IsTrue, List, None, Ok, Option, Result, Some, Vec, [], ap, arith, drop, false, get_or, inl, inr, le-add_right, le_refl, le_trans, length, map, refl, replicate, rules, subst, suc, sym, take, true, true≢false, zero, ℕ, ◌++◌, ◌+◌, ◌<◌, ◌∙◌, ◌∷◌, ◌≡◌, ◌≢◌, ◌≤◌, ◌⊎◌}
 pub use Rattle.std.proofs.lemmas.Bool.{and_parts, false≢true}
-pub use Rattle.std.proofs.lemmas.List.{length-map, length-replicate, map_more, take-map, take_all}
-pub use Rattle.std.proofs.lemmas.Option.{same_Some}
-pub use Rattle.std.proofs.lemmas.Result.{err_from_is_err_and, on_err_weaker, on_ok_weaker}
+pub use Rattle.std.proofs.lemmas.List.{append-nil, length-map, length-replicate, map_more, replicate_more, take-map, take_all}
+pub use Rattle.std.proofs.lemmas.Result.{IfErr-weaker, IfOk-weaker, err_from_is_err_and, on_err_weaker, on_ok_weaker}
 pub use Rattle.std.specs.List.{AllByRecursion}
-pub use Rattle.std.specs.Prelude.{IfErr, IfOk, IsErr, OnErr, OnOk, codes, flat_map, is_some, option_map, string_bytes}
+pub use Rattle.std.specs.Prelude.{IfErr, IfOk, IsErr, IsOk, OnErr, OnOk, codes, flat_map, is_some, option_map, string_bytes}
 pub use Rattle.std.specs.declared.alloc.Global.{Global}
 pub use Rattle.par2_files.specs.ChangeViews.{change_of}
 pub use Rattle.par2_journal.specs.Opening.{opened_of, session_before, way_left}
@@ -14,11 +13,14 @@ pub use Rattle.par2_journal.specs.Ready.{CanBe, Changing, IsReady, Kind, Ready, 
 pub use Rattle.par2_journal.specs.SessionRefusals.{MayRefuse}
 pub use Rattle.par2_journal.specs.Spelling.{AreSpelled, SpellsWhere}
 pub use Rattle.par2_journal.specs.StepViews.{step_view}
+pub use Rattle.par2_journal.specs.declared.preparation.SessionFault.{SessionFault}
 pub use Rattle.par2_journal.specs.declared.preparation.SessionFault.TheVariants.{NothingToRedo, NothingToUndo, Plan}
 pub use Rattle.par2_journal.specs.declared.spelling.Journals.{Journals}
 pub use Rattle.par2_laws.specs.Creates.{may_refuse}
+pub use Rattle.par2_output.specs.PrintedValues.{words_requested}
+pub use Rattle.par2_output.specs.PrinterStates.{IsFlushed, PrinterTookAll, PrinterWrote, failures_of, seen, writer_of}
+pub use Rattle.par2_output.specs.declared.printer.Printer.{Printer}
 pub use Rattle.par2_repair.specs.ReportViews.{report_view, target_report_of}
-pub use Rattle.par2_output.specs.PrinterStates.{PrinterTookAll, PrinterWrote, seen}
 pub use Rattle.par2_spec.proofs.SessionLaws.{accepted_next, done_can_walk, grown_can_walk, ok_no_err, redone_can_walk, refused_alike, same_ok, same_session, undone_can_walk, walked_is_valid}
 pub use Rattle.par2_spec.proofs.StopLaws.{halfway_stored, settled_stored, still_stored, taken_back_leads}
 pub use Rattle.par2_spec.proofs.TestLaws.{by_either}
@@ -27,38 +29,30 @@ pub use Rattle.par2_spec.specs.Changes.{Change, are_applicable, takes_all}
 unfoldable pub use Rattle.par2_spec.specs.Changes.{effects}
 pub use Rattle.par2_spec.specs.Commands.{Action, Command, Do, Repair, Undo, Verify}
 pub use Rattle.par2_spec.specs.Folders.{Folder}
-pub use Rattle.par2_spec.specs.History.{Accepted, Ended, History, IsChanging, Passed, Refusal, Execution, folders}
+pub use Rattle.par2_spec.specs.History.{Accepted, Ended, Execution, History, IsChanging, Passed, Refusal, folders}
 unfoldable pub use Rattle.par2_spec.specs.History.{history_after}
 pub use Rattle.par2_spec.specs.Journals.{Journal, Spells}
-pub use Rattle.par2_spec.specs.Opening.{Halfway, Opened, Settled, Started, FingerprintsDiffer, halfway_where, is_valid, new_session, opened, settled_journal, started}
+pub use Rattle.par2_spec.specs.Opening.{FingerprintsDiffer, Halfway, Opened, Settled, Started, halfway_where, is_valid, new_session, opened, settled_journal, started}
 unfoldable pub use Rattle.par2_spec.specs.Opening.{Opens, OpensAs, journals_of, leads}
+pub use Rattle.par2_spec.specs.Output.{Outcome, line, step_line, target_line, verdict_words}
+unfoldable pub use Rattle.par2_spec.specs.Output.{output_of, report_lines, status_of, status_of_failure, status_of_fault}
 pub use Rattle.par2_spec.specs.Plans.{LeadsToAfterRequested, changes_of}
 pub use Rattle.par2_spec.specs.Refusals.{early_refusal_of, set_in}
 unfoldable pub use Rattle.par2_spec.specs.Refusals.{refusal}
-pub use Rattle.par2_spec.specs.Reports.{Report, verdict_of}
+pub use Rattle.par2_spec.specs.Reports.{Report, report_of, verdict_of}
 unfoldable pub use Rattle.par2_spec.specs.Reports.{report_in}
 pub use Rattle.par2_spec.specs.Sessions.{CanWalk, KeptSession, OnlyGrew, Session, changes_unless, session_of_kept, session_unless, session_with}
 unfoldable pub use Rattle.par2_spec.specs.Sessions.{changes_requested, history_of, kept_done, kept_redone, kept_undone, session_after}
 pub use Rattle.par2_spec.specs.Stores.{Contents, with_change, with_journal}
-pub use Rattle.par2_spec.specs.Output.{Outcome, line, step_line, target_line, verdict_words}
-unfoldable pub use Rattle.par2_spec.specs.Output.{output_of, report_lines, status_of, status_of_failure, status_of_fault}
 pub use Rattle.par2_spec.specs.Views.{action_of, command_of}
 pub use Rattle.par2_spec.specs.declared.Failure.{Failure}
-pub use Rattle.par2_spec.specs.declared.Failure.TheVariants.{Arguments, FolderChanged, JournalInvalid, Refused, Store}
+pub use Rattle.par2_spec.specs.declared.Failure.TheVariants.{FolderChanged, JournalInvalid, Refused, Store}
 pub use Rattle.par2_spec.specs.declared.Fault.{Fault}
 pub use Rattle.par2_spec.specs.declared.Fault.TheVariants.{Memory, NotRepairable, RepairFailed}
 pub use Rattle.par2_spec.specs.declared.JournalFault.{JournalFault}
 pub use Rattle.par2_spec.specs.declared.Version.TheVariants.{Two}
-pub use Rattle.par2_tool.specs.CommandLines.{AskFor}
-pub use Rattle.par2_tool.specs.Calls.{AreAtMost, AreCallsToOpen, AreCallsToRun, CountsCalls, CountsFailedRun, CountsOpening, CountsRefusedRun, IsCalled, IsHalfway, calls_requested, calls_to_write, calls_unless}
-pub use Rattle.par2_tool.specs.StoreContents.{HasJournalOf, Holds, IsOpening, IsSettled, OpensAsBefore, OpensAsBeforeOrAfter, FingerprintsDifferAlong, FingerprintsDifferBack, FingerprintsDifferInRun, with_history}
-pub use Rattle.par2_tool.specs.Opening.{IsCounted, IsOpened, WasRead, IsStillHalfway, IsTakenBack, IsUnopened, LeavesUnopened, OnlyTakesBack, StandsFor, StartsWithout, TakesBack, started_of}
-pub use Rattle.par2_tool.specs.Performing.{AreSomeMade, HoldsJournaled, IsAnswer, IsReport, IsStoppedAt, IsVerify, IsWritten, after_write_down, outcome_of, with_all_changes, with_halfway_journal}
-pub use Rattle.par2_tool.specs.ReportedFailures.{IsRefused, IsSession, failure_for, unopened_as}
-pub use Rattle.par2_tool.specs.Repairs.{AskForRepair}
-pub use Rattle.par2_tool.specs.ProgramRuns.{Effective, HasNoEffect, Runs, TakesEffect}
-pub use Rattle.par2_tool.specs.StoreOpenings.{KeepsStore, Stands, IsVerifyCommand}
-pub use Rattle.par2_tool.specs.RunResult.{Answered, Failed, IsAtTheEnd, IsBack, IsCause, IsDone, IsFailed, IsPrinted, IsRefusedFor, IsShown, IsStopped, IsUnread, Leaves, MakesCalls, OpensAsBeforeOrAfterRun, SameOutput, RunResult}
-pub use Rattle.par2_tool.specs.StoreWrites.{AreSomeWritten, ContentsAreDurable}
+pub use Rattle.par2_tool.specs.Opening.{AreAtMost, AreCallsToOpen, AreSomeWritten, ContentsAreDurable, CountsCalls, FingerprintsDifferBack, Holds, HoldsJournaled, IsCounted, IsHalfway, IsOpened, IsOpening, IsSettled, IsStillHalfway, IsTakenBack, IsUnopened, IsVerify, KeepsStore, OnlyTakesBack, OpensAsBefore, OpensStore, StandsFor, WasRead, refused_as, started_of, unopened_as, with_all_changes, with_history}
+pub use Rattle.par2_tool.specs.Performing.{FingerprintsDifferAlong, HoldsAfter, IsAnswer, IsRefused, IsStoppedAt, IsWritten, OpensAsBeforeOrAfter, after_write_down, calls_before, calls_requested, calls_unless, failure_for, outcome_of, with_halfway_journal}
+pub use Rattle.par2_tool.specs.Runs.{Answered, AreCallsToRun, AskFor, AskForRepair, CountsFailedRun, Effective, Failed, FingerprintsDifferInRun, HasNoEffect, IsBack, IsCause, IsDone, IsFailed, IsOneUndoFrom, IsPrinted, IsRefusedFor, IsResult, IsRun, IsRunResult, IsShown, IsStopped, IsUnread, RunResult, Runs, TakesEffect}
 pub use Rattle.par2_tool.specs.declared.opening.OpenFault.{OpenFault}
 pub use Rattle.par2_tool.specs.declared.performing.PerformFault.{PerformFault}

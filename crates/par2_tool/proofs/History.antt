@@ -1,13 +1,13 @@
 -- Runs on one store keep one history.
-use Rattle.par2_tool.proofs.Common.{◌≡◌, inl, inr, List, [], ◌∷◌, ◌++◌, Option, Some, None, Result, Ok, Err, Bool, true, false, refl, sym, ap, subst, ◌∙◌, ℕ, length, arith, Action, Do, Verify, Folder, Opened, Settled, Halfway, Started, opened, new_session, is_valid, started, OpensAs, Opens, leads, Session, history_of, session_unless, session_after, changes_requested, LeadsToAfterRequested, Contents, JournalFault, Journal, Spells, accepted_next, refused_alike, same_ok, ok_no_err, taken_back_leads, IsOpened, IsWritten, IsOpening, IsSettled, Holds, with_history, IsRefusedFor, Refusal, Execution, history_after, HasNoEffect, Runs, Effective, TakesEffect}
+use Rattle.par2_tool.proofs.Common.{◌≡◌, inl, inr, List, [], ◌∷◌, ◌++◌, Option, Some, None, Result, Ok, Err, Bool, true, false, refl, sym, ap, subst, ◌∙◌, ℕ, length, arith, Action, Do, Verify, Folder, Opened, Settled, Halfway, Started, opened, new_session, is_valid, started, OpensAs, Opens, leads, Session, history_of, session_unless, session_after, changes_requested, LeadsToAfterRequested, Contents, JournalFault, Journal, Spells, accepted_next, refused_alike, same_ok, ok_no_err, taken_back_leads, IsOpened, IsOpening, IsSettled, Holds, with_history, IsWritten, IsRefusedFor, HasNoEffect, Runs, Effective, TakesEffect, Refusal, Execution, history_after}
 use Rattle.par2_spec.specs.declared.JournalFault.TheVariants.{FolderChanged}
 use Rattle.par2_spec.specs.History as history
-use Rattle.par2_tool.specs.ProgramRuns.{Ended, Passed}
+use Rattle.par2_tool.specs.Runs.{Ended, Passed}
 use Rattle.par2_tool.proofs.Openings.{settled_on, halfway_by}
 
 -- ---- a store opens in one way
 
-abbrev OneStart : Type 0
+abbrev pub OneStart : Type 0
 OneStart = (contents : Contents) (a b : Started) → IsOpening contents (Ok a) → IsOpening contents (Ok b) → a ≡ b
 
 -- bytes spell at most one journal
@@ -60,7 +60,7 @@ written_holds : (action : Action) (s after : Session) (dropped : Bool) (old betw
 written_holds (Do (Verify base extras)) s after dropped old between new opened leads written =
     let end : Started = record { session = s; dropped = dropped } in
     (end, verify_stays s after base extras leads, subst (λ (k : Contents). Holds k end) (sym written) opened.holds)
-written_holds action s after dropped old between new opened leads written = (with_history after, refl, written.0)
+written_holds action s after dropped old between new opened leads written = (with_history after, refl, written.holds)
 
 -- ---- one run
 
@@ -100,10 +100,10 @@ effect_settles action old new (inl p) =
 effect_settles action old new (inr p) = (with_history p.2.after, p.2.holds)
 
 -- what is refused, the history refuses, too
-pub refused_so : OneStart → (old new : Contents) (started : Started) (action : Action) (reason : Refusal) → IsOpening old (Ok started) → IsRefusedFor action old new reason
+pub refused_so : OneStart → (old new : Contents) (started : Started) (action : Action) (reason : Refusal) → IsOpening old (Ok started) → (opened : Started) × IsRefusedFor action old new reason opened
     → history_after (history_of started.session) action ≡ Err reason
 refused_so one old new started action reason opens refused =
-    ap (λ (x : Started). history_after (history_of x.session) action) (one old started refused.0 opens refused.1.opens) ∙ refused_after refused.0.session action reason refused.2
+    ap (λ (x : Started). history_after (history_of x.session) action) (one old started refused.0 opens refused.1.0.opens) ∙ refused_after refused.0.session action reason refused.1.1
 
 -- ---- all of them
 

@@ -1,5 +1,5 @@
 -- Changes that were made in order in a store.
-use Rattle.par2_tool.proofs.Common.{◌≡◌, ◌<◌, ◌+◌, ℕ, zero, suc, List, [], ◌∷◌, ◌++◌, length, map, get_or, take, IsTrue, refl, sym, ap, subst, ◌∙◌, arith, ◌⊎◌, inl, inr, ◌≤◌, map_more, length-map, take_all, take-map, and_parts, Contents, with_change, with_journal, change_of, KeptSession, OnlyGrew, Kind, changes_by_kind, with_all_changes, with_halfway_journal, IsStoppedAt, Journals, AreSomeWritten}
+use Rattle.par2_tool.proofs.Common.{◌≡◌, ◌<◌, ◌+◌, ℕ, zero, suc, List, [], ◌∷◌, ◌++◌, length, map, get_or, take, IsTrue, refl, sym, ap, subst, ◌∙◌, arith, ◌⊎◌, inl, inr, ◌≤◌, map_more, length-map, take_all, take-map, and_parts, Contents, with_change, with_journal, change_of, KeptSession, OnlyGrew, Kind, changes_by_kind, with_all_changes, AreSomeWritten, with_halfway_journal, IsStoppedAt, Journals}
 use Rattle.par2_files.specs.declared.change.Change.{Change}
 use Rattle.par2_spec.specs.Changes as defined
 

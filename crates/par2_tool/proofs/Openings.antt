@@ -1,9 +1,8 @@
 -- What a store opens as, and what a stop leaves of it.
-use Rattle.par2_tool.proofs.Common.{◌≡◌, ◌⊎◌, inl, inr, ℕ, true, IsTrue, List, take, Option, Some, None, Result, Ok, Err, refl, sym, ap, subst, ◌∙◌, arith, Vec, option_map, OnErr, IfErr, IfOk, started_of, IsOpened, WasRead, IsStillHalfway, IsTakenBack, TakesBack, LeavesUnopened, IsCounted, StartsWithout, Global, Folder, Change, are_applicable, effects, Session, Journal, Spells, Opened, Settled, Halfway, Started, is_valid, new_session, settled_journal, started, FingerprintsDiffer, Opens, OpensAs, opened, Contents, with_journal, JournalFault, Two, settled_stored, still_stored, taken_back_leads, Holds, IsOpening, OpensAsBefore, FingerprintsDifferBack, with_history, IsStoppedAt, CountsOpening, OpenFault, KeepsStore}
+use Rattle.par2_tool.proofs.Common.{◌≡◌, ◌⊎◌, inl, inr, ℕ, true, IsTrue, List, take, Option, Some, None, Result, Ok, Err, refl, sym, ap, subst, ◌∙◌, arith, Vec, ◌<◌, option_map, OnErr, IfErr, IfOk, started_of, IsOpened, WasRead, IsStillHalfway, IsTakenBack, IsCounted, Holds, IsOpening, OpensAsBefore, FingerprintsDifferBack, with_history, KeepsStore, AreCallsToOpen, CountsCalls, IsHalfway, IsUnopened, OpensStore, refused_as, Global, Folder, Change, are_applicable, effects, Session, Journal, Spells, Opened, Settled, Halfway, Started, is_valid, new_session, settled_journal, started, FingerprintsDiffer, Opens, OpensAs, opened, Contents, with_journal, JournalFault, Two, settled_stored, still_stored, taken_back_leads, IsStoppedAt, OpenFault}
 use Rattle.par2_tool.proofs.MadeChanges.{all_changed_is}
 use Rattle.par2_disk.specs.Stores.{OnlyReads}
 use Rattle.par2_disk.specs.declared.view.Store.{Ghosts as StoreOf}
-use Rattle.par2_tool.specs.StoreOpenings.{OpensStore as OpensStore}
 use Rattle.par2_spec.specs.declared.JournalFault.TheVariants as fault
 use Rattle.par2_tool.specs.declared.opening.Started as program
 
@@ -24,6 +23,14 @@ pub bytes_read : (contents : Contents) (files : Folder) (journal : Option (Vec �
     → WasRead contents files (Some bytes)
 bytes_read contents files journal content bytes read some is = grind arith
 
+-- the store's command is halfway if what was read says so
+pub is_halfway : (contents : Contents) (files : Folder) (bytes : List ℕ) (s : Session) (back : List Change) → WasRead contents files (Some bytes) → Opens files bytes (Ok (Halfway s back)) → IsHalfway contents s back
+is_halfway contents files bytes s back read opens = record {
+  bytes = bytes;
+  journal = ap (λ (k : Contents). k.journal) read;
+  halfway = subst (λ f. Opens f bytes (Ok (Halfway s back))) (sym (ap (λ (k : Contents). k.files) read)) opens;
+}
+
 -- what is read opens as its journal does
 pub opens_read : (contents : Contents) (files : Folder) (bytes : List ℕ) (o : Result Opened JournalFault) (answer : Result Started JournalFault) → WasRead contents files (Some bytes) → Opens files bytes o → answer ≡ started files o → IsOpening contents answer
 opens_read contents files bytes o answer read opens is = unfold OpensAs in subst (λ k. IsOpening k answer) (sym read) (o, opens, is)
@@ -33,14 +40,15 @@ pub opened_on : (contents : Contents) (started : Started) → IsOpening contents
 opened_on contents started opens files = record { opens = opens; holds = record { files = files; opens = opens }; left = inl refl }
 
 -- a store whose journal is refused is opened as a new session, or isn't opened and is left alone
-module _ (contents : Contents) (files : Folder) (bytes : List ℕ) (e : JournalFault) (r : Result program.Started OpenFault) (on : Folder) (same : on ≡ files) (starts : StartsWithout on e r) where
+module _ (contents : Contents) (files : Folder) (bytes : List ℕ) (e : JournalFault) (r : Result program.Started OpenFault) (on : Folder) (same : on ≡ files)
+    (opens : IfOk r (λ s. started on (Err e) ≡ Ok (started_of s))) (refuses : IfErr r (λ refused. (started on (Err e) ≡ Err e) × (refused ≡ refused_as e))) where
   pub opens_without : WasRead contents files (Some bytes) → (e ≡ fault.Memory) ⊎ Opens files bytes (Err e) → IfOk r (λ s. IsOpened contents contents (started_of s))
   opens_without read refused = grind (arith, opens_read, opened_on)
 
-  pub unopened_without : WasRead contents files (Some bytes) → (e ≡ fault.Memory) ⊎ Opens files bytes (Err e) → LeavesUnopened contents contents r
+  pub unopened_without : WasRead contents files (Some bytes) → (e ≡ fault.Memory) ⊎ Opens files bytes (Err e) → IfErr r (IsUnopened contents contents)
   unopened_without read refused = grind (arith, opens_read)
 
-  pub counted_without : (n : ℕ) → IfErr r (IsCounted n n)
+  pub counted_without : (n : ℕ) → IfErr r (IsCounted (n < n) n n)
   counted_without n = grind arith
 
 -- without a journal a store opens as a new session
@@ -63,22 +71,12 @@ holds_taken_back old new files bytes s back read opens done =
     done.2 ∙ ap (λ k. with_journal k done.0) (all_changed_is old back) ∙ ap (λ f. record { files = f; journal = Some done.0 }) home in
     subst (λ k. Holds k (with_history s)) (sym is) (record { files = refl; opens = settled_stored Two s done.0 leads.2 done.1 })
 
-takes_back : (old new : Contents) (files : Folder) (bytes : List ℕ) (s : Session) (back : List Change) → WasRead old files (Some bytes) → Opens files bytes (Ok (Halfway s back)) → IsTakenBack s back old new → TakesBack old new
-takes_back old new files bytes s back read opens done = record {
-  bytes = bytes;
-  session = s;
-  back = back;
-  journal = ap (λ (k : Contents). k.journal) read;
-  halfway = subst (λ f. Opens f bytes (Ok (Halfway s back))) (sym (ap (λ (k : Contents). k.files) read)) opens;
-  taken = done;
-}
-
 -- then the store is opened
 pub opened_taken_back : (old new : Contents) (files : Folder) (bytes : List ℕ) (s : Session) (back : List Change) → WasRead old files (Some bytes) → Opens files bytes (Ok (Halfway s back)) → IsTakenBack s back old new → IsOpened old new (with_history s)
 opened_taken_back old new files bytes s back read opens done = record {
   opens = opens_read old files bytes (Ok (Halfway s back)) (Ok (with_history s)) read opens refl;
   holds = holds_taken_back old new files bytes s back read opens done;
-  left = inr (takes_back old new files bytes s back read opens done);
+  left = inr (s, back, is_halfway old files bytes s back read opens, done);
 }
 
 -- the changes of the way back apply in order
@@ -96,9 +94,8 @@ opens_still old new files bytes s back read opens apart stop = inr (with_history
     by_stop (inl some) =
         let n = some.0 in
         let by = halfway_by files bytes s back opens in
-        let at = ap (λ (k : Contents). k.files) read in
         let apart_from : FingerprintsDiffer files back =
-        subst (λ f. FingerprintsDiffer f back) at (apart bytes s back (ap (λ (k : Contents). k.journal) read) (subst (λ f. Opens f bytes (Ok (Halfway s back))) (sym at) opens)) in
+        subst (λ f. FingerprintsDiffer f back) (ap (λ (k : Contents). k.files) read) (apart s back (is_halfway old files bytes s back read opens)) in
         let is : new ≡ record { files = effects files (take n back); journal = Some bytes } =
         some.2 ∙ all_changed_is old (take n back) ∙ ap (λ (k : Contents). record { files = effects k.files (take n back); journal = k.journal }) read in
         subst (λ k. IsOpening k (Ok (with_history s))) (sym is) (still_stored by.0 files s back n bytes by.1 by.2 apart_from some.1)
@@ -115,26 +112,27 @@ any_err r P p = grind arith
 
 module _ {S T : Type 0} (store : StoreOf S) where
   -- whatever a power cut leaves of one that was only read is what was there
-  pub reads_opens : (old new : S) (r : Result T OpenFault) → OnlyReads store old new → store.honest old → store.impossible new ≡ store.impossible old → LeavesUnopened (store.contents old) (store.contents new) r → OpensStore store old new r
-  reads_opens old new r reads honest possible unopened = grind arith
+  pub reads_opens : (old new : S) (r : Result T OpenFault) → OnlyReads store old new → store.honest old → store.impossible new ≡ store.impossible old → IfErr r (IsUnopened (store.contents old) (store.contents new)) → OpensStore store old new r
+  reads_opens old new r reads honest possible refused = grind arith
 
   -- nothing was done at all
-  pub stays_opens : (it : S) (r : Result T OpenFault) → LeavesUnopened (store.contents it) (store.contents it) r → OpensStore store it it r
-  stays_opens it r unopened = grind arith
+  pub stays_opens : (it : S) (r : Result T OpenFault) → IfErr r (IsUnopened (store.contents it) (store.contents it)) → OpensStore store it it r
+  stays_opens it r refused = grind arith
 
-  pub stays_keeps : (it : S) (r : Result T OpenFault) → IfErr r (IsCounted (store.failures it) (store.failures it)) → KeepsStore store it it r
+  pub stays_keeps : (it : S) (r : Result T OpenFault) → IfErr r (IsCounted (store.failures it < store.failures it) (store.failures it) (store.failures it)) → KeepsStore store it it r
   stays_keeps it r counted = grind arith
 
   pub opens_after_reading : (old read new : S) (r : Result T OpenFault) → OnlyReads store old read → store.honest old → store.impossible read ≡ store.impossible old → OpensStore store read new r → OpensStore store old new r
   opens_after_reading old read new r reads honest possible opens =
       let same = reads.same honest in
       record {
-        unopened = subst (λ k. LeavesUnopened k (store.contents new) r) same opens.unopened;
+        refused = subst (λ k. IfErr r (IsUnopened k (store.contents new))) same opens.refused;
+        stopped = λ apart. subst (λ k. OnErr r (OpensAsBefore k (store.contents new))) same (opens.stopped (subst FingerprintsDifferBack (sym same) apart));
         cut = λ durable apart left may.
             subst (λ k. OpensAsBefore k left) same
             (opens.cut (λ other may_be. durable other (reads.remains honest other may_be) ∙ sym same) (subst FingerprintsDifferBack (sym same) apart) left may);
         possible = opens.possible ∙ possible;
         calls =
-            subst (λ before. CountsOpening (store.contents old) before (store.writing_calls new) r) reads.unwritten
-            (subst (λ k. CountsOpening k (store.writing_calls read) (store.writing_calls new) r) same opens.calls);
+            let counted = opens.calls in
+            (counted.0, subst (λ k. AreCallsToOpen k counted.0) same counted.1, subst (λ before. CountsCalls counted.0 before (store.writing_calls new) r) reads.unwritten counted.2);
       }

@@ -1,14 +1,11 @@
 -- What a store is opened as for a command, and the result of an action on it.
-use Rattle.par2_tool.proofs.Common.{by_either, ◌≡◌, inl, inr, ℕ, List, Result, Ok, Err, Bool, true, false, refl, sym, ap, subst, ◌∙◌, arith, Some, None, Option, false≢true, Change, Action, Command, Do, Verify, Started, OpensAs, new_session, Session, KeptSession, session_of_kept, changes_requested, changes_unless, session_after, Contents, Fault, Memory, Plan, NothingToUndo, NothingToRedo, FingerprintsDifferAlong, FingerprintsDifferBack, OpensAsBefore, OpensAsBeforeOrAfter, with_history, IsOpened, IsUnopened, StandsFor, IsCounted, WasRead, started_of, IsVerify, IsAnswer, IsReport, IsWritten, IsRefused, IsSession, failure_for, unopened_as, IsBack, IsCause, IsFailed, IsAtTheEnd, IsStopped, OpensAsBeforeOrAfterRun, IsDone, SameOutput, OpenFault, PerformFault, IfOk, Folder, changes_of, LeadsToAfterRequested, refusal, report_in, Outcome, output_of, Stands, IsVerifyCommand}
-use Rattle.par2_journal.specs.declared.preparation.SessionFault.{SessionFault}
+use Rattle.par2_tool.proofs.Common.{by_either, ◌≡◌, inl, inr, ℕ, List, Result, Ok, Err, Bool, true, false, refl, sym, ap, subst, ◌∙◌, arith, Some, None, ◌<◌, false≢true, Change, Action, Command, Do, Verify, Started, OpensAs, new_session, Session, KeptSession, session_of_kept, changes_requested, changes_unless, session_after, Contents, Memory, Plan, NothingToUndo, NothingToRedo, FingerprintsDifferAlong, OpensAsBeforeOrAfter, IsAnswer, IsWritten, IsRefused, failure_for, FingerprintsDifferBack, OpensAsBefore, with_history, IsOpened, IsUnopened, StandsFor, IsCounted, WasRead, started_of, IsVerify, unopened_as, IsBack, IsCause, IsFailed, IsStopped, IsDone, IsRefusedFor, OpenFault, PerformFault, IfOk, Folder, changes_of, LeadsToAfterRequested, refusal, report_in, Outcome, output_of, SessionFault}
 use Rattle.par2_tool.specs.declared.performing.PerformFault.TheVariants.{Session as Refusing, Store}
-use Rattle.std.specs.Borrow.{Bor}
 use Rattle.par2_tool.proofs.Calls.{for_verify}
 use Rattle.par2_tool.proofs.Openings.{opened_on, opens_new}
 use Rattle.par2_tool.proofs.VerifyRuns.{as_it_was, verify_leaves}
 use Rattle.par2_spec.specs.History as history
 use Rattle.par2_tool.specs.declared.opening.OpenFault.TheVariants as unopened
-use Rattle.par2_spec.specs.declared.commands.Command as given
 use Rattle.par2_tool.specs.declared.opening.Started as program
 
 -- ---- only an undo or redo has nothing to go back to
@@ -26,22 +23,17 @@ at_an_end s action end is e = unfold changes_requested is_plan in grind (arith, 
 
 -- a stop of a command, or a cut during it, is one of the whole run
 pub stopped_command : (action : Action) (old mid new : Contents) (start : Started) → IsOpened old mid start → (FingerprintsDifferAlong start.session action → OpensAsBeforeOrAfter start.session action mid new) → IsStopped action old new
-stopped_command action old mid new start opened stopped = λ _ along. all_stops (stopped (along start opened.opens))
-  where
-    all_stops : OpensAsBeforeOrAfter start.session action mid new → OpensAsBeforeOrAfterRun action old new
-    all_stops (inl e) = inr (start, opened.opens, inl (subst (λ (k : Contents). IsOpened old k start) (sym e) opened).holds.opens)
-    all_stops (inr stop) = inr (start, opened.opens, inr stop)
+stopped_command action old mid new start opened stopped = λ apart.
+    by_either (stopped (apart.along start opened.opens))
+    (λ same. inr (start, opened.opens, inl (subst (λ (k : Contents). IsOpened old k start) (sym same) opened).holds.opens))
+    (λ stop. inr (start, opened.opens, inr stop))
 
 -- a stop of the opening is one of the whole run, too
 pub stopped_opening : (action : Action) (old new : Contents) → (FingerprintsDifferBack old → OpensAsBefore old new) → IsStopped action old new
-stopped_opening action old new stopped = λ back _. all_stops (stopped back)
-  where
-    all_stops : OpensAsBefore old new → OpensAsBeforeOrAfterRun action old new
-    all_stops (inl e) = inl e
-    all_stops (inr s) = inr (s.0, s.1, inl s.2)
+stopped_opening action old new stopped = λ apart. by_either (stopped apart.back) (λ same. inl same) (λ s. inr (s.0, s.1, inl s.2))
 
 -- a cut while a command is performed; during a verify the store doesn't change
-pub cut_of_command : (Honest : Type 0) (action : Action) (old mid left : Contents) (opened started : Started) → Honest → StandsFor action opened started → (Honest → IsOpened old mid opened)
+pub cut_of_command : (Honest : Type 0) (action : Action) (old mid left : Contents) (opened started : Started) → Honest → StandsFor (IsVerify action) opened started → (Honest → IsOpened old mid opened)
     → (mid.files ≡ started.session.folder → FingerprintsDifferAlong started.session action → OpensAsBeforeOrAfter started.session action mid left) → (IsVerify action → left ≡ mid) → IsStopped action old left
 cut_of_command Honest action old mid left opened started honest (inl same) found cut verified =
     let there : IsOpened old mid started = subst (λ (t : Started). IsOpened old mid t) same (found honest) in
@@ -50,14 +42,6 @@ cut_of_command Honest action old mid left opened started honest (inr verify) fou
 
 -- ---- faults of a session
 
-memory_of : SessionFault → Fault
-memory_of (Plan fault) = fault
-memory_of fault = Memory
-
-is_plan_fault : SessionFault → Bool
-is_plan_fault (Plan fault) = true
-is_plan_fault fault = false
-
 module _ (action : Action) (old mid new : Contents) (s later : KeptSession) (dropped : Bool) (opened : IsOpened old mid (record { session = session_of_kept s; dropped = dropped })) (back : IsBack action → dropped ≡ false) where
   abbrev start : Started
   start = record { session = session_of_kept s; dropped = dropped }
@@ -65,23 +49,20 @@ module _ (action : Action) (old mid new : Contents) (s later : KeptSession) (dro
   unchanged : new ≡ mid → IsOpened old new start
   unchanged same = subst (λ (k : Contents). IsOpened old k start) (sym same) opened
 
-  ended : (end : history.Refusal) → is_plan {A = List Change} (Err end) ≡ false → changes_requested (session_of_kept s) action ≡ Err end → new ≡ mid → IsAtTheEnd action old new end
+  ended : (end : history.Refusal) → is_plan {A = List Change} (Err end) ≡ false → changes_requested (session_of_kept s) action ≡ Err end → new ≡ mid → (session : Session) × IsRefusedFor action old new end (with_history session)
   ended end is requested same =
-      let none = back (at_an_end (session_of_kept s) action end is requested) in (
-        session_of_kept s,
-        subst (λ b. IsOpened old new (record { session = session_of_kept s; dropped = b })) none (unchanged same),
-        requested,
-      )
+      let none = back (at_an_end (session_of_kept s) action end is requested) in
+      (session_of_kept s, (subst (λ b. IsOpened old new (record { session = session_of_kept s; dropped = b })) none (unchanged same), requested))
 
-  pub perform_failed : (before after : ℕ) (fault : PerformFault) → IsRefused action s later before after fault → (IsSession fault → new ≡ mid)
+  pub perform_failed : (before after : ℕ) (fault : PerformFault) → IsRefused action s later before after fault → ((reason : SessionFault) → fault ≡ Refusing reason → new ≡ mid)
       → (FingerprintsDifferAlong (session_of_kept s) action → OpensAsBeforeOrAfter (session_of_kept s) action mid new) → IsFailed action old new (failure_for fault)
-  unfolding memory_of is_plan_fault is_plan
+  unfolding is_plan
   perform_failed before after (Refusing (Plan reason)) refused same stopped =
-      by_either refused.0 (λ memory. inl (ap memory_of memory, inr (start, unchanged (same tt)))) (λ requested. inr (start, unchanged (same tt), requested))
+      by_either refused.0 (λ memory. inl (let is : reason ≡ Memory = cc memory in is, inr (start, unchanged (same _ refl)))) (λ requested. inr (start, (unchanged (same _ refl), requested)))
   perform_failed before after (Refusing NothingToUndo) refused same stopped =
-      by_either refused.0 (λ memory. absurd (false≢true (ap is_plan_fault memory))) (λ requested. ended history.NothingToUndo refl requested (same tt))
+      by_either refused.0 (λ memory. absurd (let no : ⊥ = cc memory in no)) (λ requested. ended history.NothingToUndo refl requested (same _ refl))
   perform_failed before after (Refusing NothingToRedo) refused same stopped =
-      by_either refused.0 (λ memory. absurd (false≢true (ap is_plan_fault memory))) (λ requested. ended history.NothingToRedo refl requested (same tt))
+      by_either refused.0 (λ memory. absurd (let no : ⊥ = cc memory in no)) (λ requested. ended history.NothingToRedo refl requested (same _ refl))
   perform_failed before after Store refused same stopped = stopped_command action old mid new start opened stopped
 
 pub opening_failed : (action : Action) (old new : Contents) (fault : OpenFault) → IsUnopened old new fault → (FingerprintsDifferBack old → OpensAsBefore old new) → IsFailed action old new (unopened_as fault)
@@ -92,17 +73,16 @@ opening_failed action old new unopened.Store is stopped = stopped_opening action
 
 -- ---- why, whatever the store does
 
-pub opening_cause : (action : Action) (before after : ℕ) (fault : OpenFault) → IsCounted before after fault → IsCause action before after (unopened_as fault)
+pub opening_cause : (action : Action) (before after : ℕ) (fault : OpenFault) → IsCounted (before < after) before after fault → IsCause action before after (unopened_as fault)
 opening_cause action before after fault counted = grind arith
 
 pub perform_cause : (action : Action) (s later : KeptSession) (before middle after : ℕ) (fault : PerformFault) → middle ≡ before → IsRefused action s later middle after fault → IsCause action before after (failure_for fault)
-unfolding memory_of is_plan_fault
 perform_cause action s later before middle after (Refusing (Plan reason)) steady refused =
-    by_either refused.0 (λ memory. (inl (ap memory_of memory), refused.2 ∙ steady)) (λ requested. (inr (session_of_kept s, requested), refused.2 ∙ steady))
+    by_either refused.0 (λ memory. (inl (let is : reason ≡ Memory = cc memory in is), refused.2 ∙ steady)) (λ requested. (inr (session_of_kept s, requested), refused.2 ∙ steady))
 perform_cause action s later before middle after (Refusing NothingToUndo) steady refused =
-    by_either refused.0 (λ memory. absurd (false≢true (ap is_plan_fault memory))) (λ requested. ((session_of_kept s, requested), refused.2 ∙ steady))
+    by_either refused.0 (λ memory. absurd (let no : ⊥ = cc memory in no)) (λ requested. ((session_of_kept s, requested), refused.2 ∙ steady))
 perform_cause action s later before middle after (Refusing NothingToRedo) steady refused =
-    by_either refused.0 (λ memory. absurd (false≢true (ap is_plan_fault memory))) (λ requested. ((session_of_kept s, requested), refused.2 ∙ steady))
+    by_either refused.0 (λ memory. absurd (let no : ⊥ = cc memory in no)) (λ requested. ((session_of_kept s, requested), refused.2 ∙ steady))
 perform_cause action s later before middle after Store steady refused = omega (arith, steady, refused)
 
 -- ---- opening
@@ -114,25 +94,18 @@ pub opened_new : (contents : Contents) (files : Folder) → WasRead contents fil
 opened_new contents files read = grind (arith, opened_on, opens_new)
 
 -- what a store was opened as has the same outcomes as itself
-pub stands_itself : (command : Option (Bor given.Command)) (o : Started) → Stands command o o
-stands_itself command o = grind arith
-
--- for a verify, what is on the same folder has the same outcome
-pub stands_for_verify : (command : Option (Bor given.Command)) (o s : Started) → IsVerifyCommand command → o.session.folder ≡ s.session.folder → Stands command o s
-stands_for_verify command o s is on = grind arith
-
-pub stands : {E : Type 0} (command : Option (Bor given.Command)) (honest : Type 0) (result : Result program.Started E) (old new : Contents) → (honest → IfOk result (λ s. IsOpened old new (started_of s)))
-    → IfOk result (λ s. (o : Started) × Stands command o (started_of s) × (honest → IsOpened old new o))
-stands command honest (Err e) old new opened = tt
-stands command honest (Ok s) old new opened = (started_of s, stands_itself command (started_of s), opened)
+pub stands : {E : Type 0} (Verifies honest : Type 0) (result : Result program.Started E) (old new : Contents) → (honest → IfOk result (λ s. IsOpened old new (started_of s)))
+    → IfOk result (λ s. (o : Started) × StandsFor Verifies o (started_of s) × (honest → IsOpened old new o))
+stands Verifies honest (Err e) old new opened = tt
+stands Verifies honest (Ok s) old new opened = (started_of s, inl refl, opened)
 
 -- without a command the result is what the store opens as
-pub starts : {E : Type 0} (honest : Type 0) (result : Result program.Started E) (old new : Contents) → IfOk result (λ s. (o : Started) × (o ≡ started_of s) × (honest → IsOpened old new o))
+pub starts : {E : Type 0} (honest : Type 0) (result : Result program.Started E) (old new : Contents) → IfOk result (λ s. (o : Started) × StandsFor ⊥ o (started_of s) × (honest → IsOpened old new o))
     → honest → IfOk result (λ s. IsOpened old new (started_of s))
 starts honest result old new opened h = grind arith
 
 -- the store is on the folder of whatever has the same outcomes
-pub files_of : (action : Action) (old mid : Contents) (o s : Started) → StandsFor action o s → IsOpened old mid o → mid.files ≡ s.session.folder
+pub files_of : (action : Action) (old mid : Contents) (o s : Started) → StandsFor (IsVerify action) o s → IsOpened old mid o → mid.files ≡ s.session.folder
 files_of action old mid o s h opened = grind arith
 
 -- ---- what a verify does on a folder
@@ -152,7 +125,7 @@ pub verify_failed : (action : Action) (old mid new : Contents) (o : Started) (s 
 unfolding standing
 verify_failed action old mid new o s later is on opening same before after fault refused =
     let failed : (base : List ℕ) (extras : List (List ℕ)) → IsRefused (Do (Verify base extras)) s later before after fault → IsFailed (Do (Verify base extras)) old new (failure_for fault) =
-    λ base extras refused. perform_failed (Do (Verify base extras)) old mid new (standing o.session) (standing o.session) o.dropped opening (λ back. absurd back) before after fault (refused_on base extras fault refused) (λ _. same) (λ _. inl same) in
+    λ base extras refused. perform_failed (Do (Verify base extras)) old mid new (standing o.session) (standing o.session) o.dropped opening (λ back. absurd back) before after fault (refused_on base extras fault refused) (λ _ _. same) (λ _. inl same) in
     for_verify (λ a. IsRefused a s later before after fault → IsFailed a old new (failure_for fault)) failed action is refused
   where
     refused_on : (base : List ℕ) (extras : List (List ℕ)) (f : PerformFault) → IsRefused (Do (Verify base extras)) s later before after f → IsRefused (Do (Verify base extras)) (standing o.session) (standing o.session) before after f
@@ -166,9 +139,9 @@ verify_failed action old mid new o s later is on opening same before after fault
 
 module _ (honest : Type 0) (old mid new : Contents) (o : Started) (s later : Session) (dropped : Bool) (outcome : Outcome) (opening : honest → IsOpened old mid o) where
   abbrev Is : Action → Type 0
-  Is action = (d : Bool) × SameOutput d dropped outcome × (honest → IsDone action old new d outcome)
+  Is action = (d : Bool) × (output_of d outcome ≡ output_of dropped outcome) × (honest → IsDone action old new d outcome)
 
-  reported : (base : List ℕ) (extras : List (List ℕ)) → o.session.folder ≡ s.folder → IsReport s base extras outcome → LeadsToAfterRequested s.folder (Do (Verify base extras)) → (honest → mid.files ≡ s.folder → new ≡ mid) → Is (Do (Verify base extras))
+  reported : (base : List ℕ) (extras : List (List ℕ)) → o.session.folder ≡ s.folder → IsAnswer s (Do (Verify base extras)) outcome → LeadsToAfterRequested s.folder (Do (Verify base extras)) → (honest → mid.files ≡ s.folder → new ≡ mid) → Is (Do (Verify base extras))
   reported base extras on answer leads written = unfold output_of in
       let same = ap (λ f. report_in f base extras) on ∙ answer.1 in (
         o.dropped,
@@ -185,7 +158,7 @@ module _ (honest : Type 0) (old mid new : Contents) (o : Started) (s later : Ses
         },
       )
 
-  pub done_for : (action : Action) → StandsFor action o (record { session = s; dropped = dropped }) → IsAnswer s action outcome → session_after s action ≡ Ok later → LeadsToAfterRequested s.folder action
+  pub done_for : (action : Action) → StandsFor (IsVerify action) o (record { session = s; dropped = dropped }) → IsAnswer s action outcome → session_after s action ≡ Ok later → LeadsToAfterRequested s.folder action
       → (honest → mid.files ≡ s.folder → IsWritten action later mid new) → Is action
   done_for action (inr verify) answer accepted leads written =
       for_verify (λ a. IsAnswer s a outcome → LeadsToAfterRequested s.folder a → (honest → mid.files ≡ s.folder → IsWritten a later mid new) → Is a)

@@ -1,10 +1,7 @@
 -- Bytes that were written and flushed.
-use Rattle.par2_tool.proofs.Common.{◌≡◌, ◌⊎◌, ◌<◌, ◌∙◌, ℕ, List, [], Option, inl, inr, subst, arith, PrinterTookAll, IsPrinted}
-use Rattle.std.proofs.lemmas.List.{append-nil}
+use Rattle.par2_tool.proofs.Common.{◌≡◌, ◌⊎◌, ◌<◌, ◌∙◌, ℕ, List, [], Option, inl, inr, subst, arith, PrinterTookAll, IsPrinted, append-nil, IsFlushed, failures_of, writer_of, Printer}
 use Rattle.std.specs.Io.KnownBytes.{Appends}
 use Rattle.std.proofs.KnownBytes.{Appends-trans}
-use Rattle.par2_output.specs.PrinterStates.{IsFlushed, failures_of, writer_of}
-use Rattle.par2_output.specs.declared.printer.Printer.{Printer}
 
 pub printed : {W : Type 0} (held : W → Option (List ℕ)) (a b c : Printer W) (bytes : List ℕ) (own status : ℕ)
     → PrinterTookAll held a b bytes → Appends (held (writer_of b)) (held (writer_of c)) []

@@ -1,6 +1,5 @@
 -- What the status of a run determines.
-use Rattle.par2_tool.proofs.Common.{◌≡◌, ◌≢◌, ◌⊎◌, ℕ, false, arith, List, Option, status_of, status_of_fault, status_of_failure, Fault, Answered, Failed, RunResult, IsShown, Failure, NotRepairable, RepairFailed, may_refuse}
-use Rattle.par2_output.specs.declared.printer.Printer.{Printer}
+use Rattle.par2_tool.proofs.Common.{◌≡◌, ◌≢◌, ◌⊎◌, ℕ, false, arith, List, Option, status_of, status_of_fault, status_of_failure, Fault, Answered, Failed, RunResult, IsShown, Failure, NotRepairable, RepairFailed, may_refuse, Printer}
 
 -- a fault's status is never 0; each of 2 and 5 has a single fault; and a repair of what a create left has no fault of
 -- status 4

@@ -1,5 +1,5 @@
 -- A command that is stopped anywhere leaves a store that opens as before it or after it.
-use Rattle.par2_tool.proofs.Common.{by_either, ◌≡◌, ◌≢◌, ◌⊎◌, inl, inr, ℕ, ◌≤◌, List, [], ◌∷◌, length, take, Option, Some, None, Result, Ok, true, IsTrue, refl, sym, ap, subst, ◌∙◌, arith, Vec, IfOk, Global, take_all, Change, are_applicable, takes_all, effects, Action, Folder, Spells, LeadsToAfterRequested, OpensAs, FingerprintsDiffer, halfway_where, settled_journal, journals_of, Session, KeptSession, CanWalk, OnlyGrew, session_of_kept, session_with, changes_requested, kept_done, kept_undone, kept_redone, Contents, with_journal, Two, done_can_walk, undone_can_walk, redone_can_walk, grown_can_walk, walked_is_valid, same_session, settled_stored, halfway_stored, Kind, Changing, Undoing, Redoing, Ready, CanBe, IsReady, changes_by_kind, after_commit, next_of, SpellsWhere, AreSpelled, Journals, with_all_changes, with_halfway_journal, after_write_down, IsStoppedAt, IsOpening, Holds, HasJournalOf, with_history, FingerprintsDifferAlong, OpensAsBeforeOrAfter}
+use Rattle.par2_tool.proofs.Common.{by_either, ◌≡◌, ◌≢◌, ◌⊎◌, inl, inr, ℕ, ◌≤◌, List, [], ◌∷◌, length, take, Option, Some, None, Result, Ok, true, IsTrue, refl, sym, ap, subst, ◌∙◌, arith, Vec, IfOk, Global, take_all, Change, are_applicable, takes_all, effects, Action, Folder, Spells, LeadsToAfterRequested, OpensAs, FingerprintsDiffer, halfway_where, settled_journal, journals_of, Session, KeptSession, CanWalk, OnlyGrew, session_of_kept, session_with, changes_requested, kept_done, kept_undone, kept_redone, Contents, with_journal, Two, done_can_walk, undone_can_walk, redone_can_walk, grown_can_walk, walked_is_valid, same_session, settled_stored, halfway_stored, Kind, Changing, Undoing, Redoing, Ready, CanBe, IsReady, changes_by_kind, after_commit, next_of, SpellsWhere, AreSpelled, Journals, with_all_changes, IsOpening, Holds, with_history, HoldsJournaled, with_halfway_journal, after_write_down, IsStoppedAt, FingerprintsDifferAlong, OpensAsBeforeOrAfter}
 use Rattle.par2_spec.proofs.FolderLaws.{state_files, taken_are_applicable}
 use Rattle.par2_tool.proofs.MadeChanges.{all_changed_is, same_changes}
 
@@ -87,17 +87,17 @@ module _ (action : Action) (old : KeptSession) (ready : Ready) (mid : KeptSessio
   unfolding journals_of
   after_spelled = subst (λ (s : Session). Spells journals.after.items (settled_journal Two s)) (sym made.commits) spelled.1
 
-  pub written_journal : HasJournalOf (session_of_kept (after_commit ready.kind mid)) (after_write_down k journals (changes_by_kind ready.kind mid))
-  written_journal = (journals.after.items, refl, after_spelled)
-
   halfway_spelled : SpellsWhere journals.halfway (halfway_where Two (session_of_kept mid) (changes_by_kind ready.kind mid))
   unfolding journals_of
   halfway_spelled = spelled.0
 
-  pub written_holds : Holds (after_write_down k journals (changes_by_kind ready.kind mid)) (with_history (session_of_kept (after_commit ready.kind mid)))
+  written_holds : Holds (after_write_down k journals (changes_by_kind ready.kind mid)) (with_history (session_of_kept (after_commit ready.kind mid)))
   written_holds =
       settled_holds (with_all_changes (with_halfway_journal k journals.halfway) (changes_by_kind ready.kind mid)) (after_commit ready.kind mid) journals.after.items (committed_walks ready.kind mid made.walks made.is.fits.can) after_spelled
       (changed_files k journals.halfway (changes_by_kind ready.kind mid) ∙ ap (λ f. effects f (changes_by_kind ready.kind mid)) (files ∙ sym made.grew.files) ∙ sym (committed_files ready.kind mid))
+
+  pub written_down : HoldsJournaled (session_of_kept (after_commit ready.kind mid)) (after_write_down k journals (changes_by_kind ready.kind mid))
+  written_down = record { holds = written_holds; bytes = journals.after.items; journal = refl; spells = after_spelled }
 
   -- after some of the changes
   passed_opens : (halfway : Option (Vec ℕ Global)) (changes : List Change) (n : ℕ) → SpellsWhere halfway (halfway_where Two (session_of_kept mid) changes) → takes_all mid.folder changes ≡ true → FingerprintsDiffer mid.folder.files changes → n ≤ length changes

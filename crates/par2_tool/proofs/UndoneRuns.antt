@@ -1,11 +1,8 @@
 -- As many undos as there were effective commands lead back.
-use Rattle.par2_tool.proofs.Common.{◌≡◌, ℕ, zero, suc, ◌≤◌, List, [], ◌∷◌, ◌++◌, length, Ok, refl, sym, ap, subst, ◌∙◌, arith, drop, replicate, Action, Undo, Folder, Started, Contents, IsOpening, IsSettled, history_of, AllByRecursion, Runs, TakesEffect, Effective, length-replicate, History, Execution, Ended, Accepted, Passed, IsChanging, folders, history_after}
+use Rattle.par2_tool.proofs.Common.{◌≡◌, ℕ, zero, suc, ◌≤◌, List, [], ◌∷◌, ◌++◌, length, Ok, refl, sym, ap, subst, ◌∙◌, arith, drop, replicate, Action, Undo, Folder, Started, Contents, IsOpening, IsSettled, history_of, AllByRecursion, Runs, TakesEffect, Effective, length-replicate, History, Execution, Ended, Accepted, Passed, IsChanging, folders, history_after, replicate_more, IsOneUndoFrom}
 use Rattle.par2_laws.proofs.UndoneFolders.{one_fewer}
-use Rattle.std.proofs.lemmas.List.{replicate_more}
-use Rattle.par2_tool.specs.ProgramRuns.{IsOneUndoFrom}
-use Rattle.par2_tool.specs.ProgramRuns as runs
-use Rattle.par2_tool.proofs.History.{run_more}
-use Rattle.par2_tool.proofs.RunEffects.{OneWay}
+use Rattle.par2_tool.specs.Runs as runs
+use Rattle.par2_tool.proofs.History.{OneStart, run_more}
 
 -- at most all of the actions are accepted
 at_most : {h end : History} {actions : List Action} {n : ℕ} → Execution h actions n end → n ≤ length actions
@@ -43,7 +40,7 @@ same_first : (a b : History) → folders a ≡ folders b → a.now ≡ b.now
 same_first a b same = let first : a.now ≡ b.now = cc in first
 
 -- an effective undo that is the last of as many as there were commands leaves the folder before them
-pub leaves_first : OneWay → LeadBack → (folder : Folder) (old new : Contents) → IsOneUndoFrom folder old → TakesEffect Undo old new → IsSettled new → new.files ≡ folder
+pub leaves_first : OneStart → LeadBack → (folder : Folder) (old new : Contents) → IsOneUndoFrom folder old → TakesEffect Undo old new → IsSettled new → new.files ≡ folder
 unfolding history_of
 leaves_first one back folder old new from effect after =
     let all : replicate from.undone Undo ++ Undo ∷ [] ≡ replicate (length from.done) Undo = replicate_more from.undone Undo ∙ ap (λ n. replicate n Undo) (sym from.left) in
@@ -60,7 +57,7 @@ module _ (keep : KeepHistory) where
       (end.0, end.2, sym (undos_drop (length done) (history_of middle.0.session) (history_of end.0.session) undone) ∙ older (history_of started.session) (history_of middle.0.session) done (length done) middle.1 changing)
 
   -- if no command is halfway, the files are those of the session
-  pub leave_files : OneWay → LeavesOlder → (old mid new : Contents) (requested done more : List Action) → IsSettled old → Runs old requested done mid → AllByRecursion IsChanging done → Runs mid more (replicate (length done) Undo) new → IsSettled new
+  pub leave_files : OneStart → LeavesOlder → (old mid new : Contents) (requested done more : List Action) → IsSettled old → Runs old requested done mid → AllByRecursion IsChanging done → Runs mid more (replicate (length done) Undo) new → IsSettled new
       → new.files ≡ old.files
   leave_files one older old mid new requested done more before commands changing undos after = unfold history_of in grind (arith, lead_back, same_first)
 
@@ -68,7 +65,7 @@ module _ (keep : KeepHistory) where
   older_of : (h next : History) → Execution h (Undo ∷ []) 1 next → (rest : List Folder) × (h.older ≡ next.now ∷ rest)
   older_of h next k = unfold history_after in grind arith
 
-  pub leaves_older : OneWay → (old new : Contents) (started : Started) → IsOpening old (Ok started) → TakesEffect Undo old new → IsSettled new
+  pub leaves_older : OneStart → (old new : Contents) (started : Started) → IsOpening old (Ok started) → TakesEffect Undo old new → IsSettled new
       → (rest : List Folder) × ((history_of started.session).older ≡ new.files ∷ rest)
   leaves_older one old new started opens effect after = unfold history_of in
       let end = keep old new started (Undo ∷ []) (Undo ∷ []) opens (Effective effect runs.Ended) in

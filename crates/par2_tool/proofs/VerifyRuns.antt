@@ -1,7 +1,6 @@
 -- What a verify returns and leaves, and what the other commands leave.
-use Rattle.par2_tool.proofs.Common.{◌≡◌, ◌⊎◌, inl, inr, ℕ, List, Some, None, Result, Ok, Err, refl, ap, arith, Do, Verify, Folder, Contents, action_of, changes_of, set_in, refusal, Report, report_in, Session, KeptSession, OnlyGrew, session_unless, changes_unless, session_after, changes_requested, Fault, Memory, MayRefuse, Plan, HoldsJournaled, IsVerify, IsWritten}
+use Rattle.par2_tool.proofs.Common.{◌≡◌, ◌⊎◌, inl, inr, ℕ, List, Some, None, Result, Ok, Err, refl, ap, arith, Do, Verify, Folder, Contents, action_of, changes_of, set_in, refusal, Report, report_in, Session, KeptSession, OnlyGrew, session_unless, changes_unless, session_after, changes_requested, Fault, Memory, MayRefuse, Plan, HoldsJournaled, IsVerify, IsWritten, report_of}
 use Rattle.par2_spec.specs.declared.commands.Action.{Action}
-use Rattle.par2_spec.specs.Reports.{report_of}
 use Rattle.par2_spec.specs.Search.{candidates}
 use Rattle.par2_spec.specs.Sets.{ParSet, ◌>>=◌}
 use Rattle.par2_spec.specs.Faults.{fault_of}

@@ -1,12 +1,3 @@
-pub mod Performing
-pub mod Answering
-pub mod StoreContents
 pub mod Opening
-pub mod Calls
-pub mod StoreWrites
-pub mod StoreOpenings
-pub mod ReportedFailures
-pub mod CommandLines
-pub mod RunResult
-pub mod ProgramRuns
-pub mod Repairs
+pub mod Performing
+pub mod Runs

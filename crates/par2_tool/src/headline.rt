@@ -8,19 +8,14 @@ ghost use Rattle.par2_spec.specs.Folders.{Folder, File};
 ghost use Rattle.par2_spec.specs.Opening.{Started};
 ghost use Rattle.par2_spec.specs.Rank.{AnotherAgrees};
 ghost use Rattle.par2_spec.specs.Search.{candidates, known};
-ghost use Rattle.par2_spec.specs.Sessions.{history_of};
+ghost use Rattle.par2_spec.specs.Sessions.{Session, history_of};
 ghost use Rattle.par2_spec.specs.Volumes.{all_slices};
 ghost use Rattle.par2_spec.specs.Stores.{Contents};
 ghost use Rattle.par2_disk.specs.Cuts.{IsDurable};
 ghost use Rattle.par2_laws.specs.Premises.{IsTrueTo};
 ghost use Rattle.par2_laws.specs.Creates.{FollowsCreate, HaveAChoice};
-ghost use Rattle.par2_tool.specs.CommandLines.{AskFor};
-ghost use Rattle.par2_tool.specs.Calls.{IsHalfway};
-ghost use Rattle.par2_tool.specs.StoreContents.{IsOpening, IsSettled, FingerprintsDifferInRun};
-ghost use Rattle.par2_tool.specs.Opening.{OnlyTakesBack};
-ghost use Rattle.par2_tool.specs.ProgramRuns.{HasNoEffect, IsOneUndoFrom, TakesEffect};
-ghost use Rattle.par2_tool.specs.RunResult.{IsRun};
-ghost use Rattle.par2_tool.specs.Repairs.{AskForRepair};
+ghost use Rattle.par2_tool.specs.Opening.{IsHalfway, IsOpening, IsSettled, OnlyTakesBack};
+ghost use Rattle.par2_tool.specs.Runs.{AskFor, AskForRepair, FingerprintsDifferInRun, HasNoEffect, IsOneUndoFrom, IsRun, TakesEffect};
 
 use crate::laws::{runs_keep_one_history, stores_open_in_one_way, undone_runs_lead_back};
 use crate::running;
@@ -55,7 +50,8 @@ pub fn run<S: FolderStore, O: Write, E: Write>(
     // A verify makes no writing call unless a command is halfway.
     ensures unwritten { (base : List ℕ) (extras : List (List ℕ)) → S.honest store.old
         → AskFor (map string_bytes words.now) (Do (Verify base extras))
-        → ((back : List Change) → IsHalfway (S.contents store.old) back → ⊥)
+        → ((session : Session) (back : List Change)
+        → IsHalfway (S.contents store.old) session back → ⊥)
         → S.writing_calls store.new ≡ S.writing_calls store.old }
     // A repair of a set that was made from certain files, if no checksum collides (`IsTrueTo`): with status 0 the store
     // holds each of them afterwards, with its bytes;

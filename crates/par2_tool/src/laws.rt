@@ -5,9 +5,8 @@ ghost use Rattle.par2_spec.specs.History.{Refusal, Execution, history_after, IsC
 ghost use Rattle.par2_spec.specs.Opening.{Started};
 ghost use Rattle.par2_spec.specs.Sessions.{history_of};
 ghost use Rattle.par2_spec.specs.Stores.{Contents};
-ghost use Rattle.par2_tool.specs.StoreContents.{IsOpening, IsSettled};
-ghost use Rattle.par2_tool.specs.ProgramRuns.{HasNoEffect, Runs, TakesEffect};
-ghost use Rattle.par2_tool.specs.RunResult.{IsRefusedFor};
+ghost use Rattle.par2_tool.specs.Opening.{IsOpening, IsSettled};
+ghost use Rattle.par2_tool.specs.Runs.{HasNoEffect, IsRefusedFor, Runs, TakesEffect};
 ghost use Rattle.std.specs.List.{AllByRecursion};
 
 use par2_journal_format::one_reading;
@@ -31,7 +30,8 @@ pub fn runs_keep_one_history()
         × IsOpening new (Ok end) }
     // If a run is refused, the history refuses the action, too.
     ensures refused { (old new : Contents) (started : Started) (action : Action) (reason : Refusal)
-        → IsOpening old (Ok started) → IsRefusedFor action old new reason
+        → IsOpening old (Ok started)
+        → (opened : Started) × IsRefusedFor action old new reason opened
         → history_after (history_of started.session) action ≡ Err reason }
     // After a run that takes effect no command is halfway.
     ensures settled { (old new : Contents) (action : Action)

@@ -1,15 +1,13 @@
 //! Opening a store as a session. `open_for` reads folder and journal (`read_store`) and opens both (`open_with`), which
 //! drops the history of a changed folder (`without_journal`) or takes back a halfway command in the store
 //! (`take_back`).
-ghost use Rattle.std.specs.Prelude.{◌≡◌, ◌+◌, IfOk, IsErrOf, Ok, Some, length, true};
+ghost use Rattle.std.specs.Prelude.{◌≡◌, Err, IfErr, IfOk, IsSomeAnd, Ok, Some, option_map, true};
 ghost use Rattle.par2_journal.specs.Opening.{OpensAsIs, session_before, way_left};
-ghost use Rattle.par2_spec.specs.Opening.{new_session};
+ghost use Rattle.par2_spec.specs.Opening.{Started as Opening, new_session, started};
 ghost use Rattle.par2_spec.specs.Sessions.{session_of_kept};
 ghost use Rattle.par2_disk.specs.Stores.{OnlyReads};
-ghost use Rattle.par2_tool.specs.Calls.{CountsCalls};
-ghost use Rattle.par2_tool.specs.StoreContents.{with_history};
-ghost use Rattle.par2_tool.specs.Opening.{started_of, CountsOpeningFailures, WasRead, StartsWithout};
-ghost use Rattle.par2_tool.specs.StoreOpenings.{KeepsStore, OpensStore, ReadsStore, Starts, StartsFor, TakesWayBack, IsVerifyCommand};
+ghost use Rattle.par2_spec.specs.Views.{command_of};
+ghost use Rattle.par2_tool.specs.Opening.{IsOpened, IsUnopened, IsVerify, KeepsStore, OpensStore, StandsFor, Starts, TakesWayBack, WasRead, refused_as, started_of, with_history};
 
 use crate::writing::write_down;
 use par2_disk::{FolderStore, ReadFault, read_folder};
@@ -70,7 +68,7 @@ impl From<ReadFault> for OpenFault {
 
 impl From<OpenFault> for Failure {
     ghost use Rattle.std.specs.Prelude.{◌≡◌};
-    ghost use Rattle.par2_tool.specs.ReportedFailures.{unopened_as};
+    ghost use Rattle.par2_tool.specs.Opening.{unopened_as};
 
     ghost from_gives = { λ fault failure. failure ≡ unopened_as fault };
 
@@ -97,9 +95,12 @@ fn without_history(alloc: Global, folder: Folder) -> Started
 }
 
 // The result of opening if the journal was refused for `fault`: if the folder isn't as a finished command left it, a
-// new session whose history was dropped, otherwise the fault. `StartsWithout`: this is what the definitions say.
+// new session whose history was dropped, otherwise the fault, as the definitions say.
 fn without_journal(alloc: Global, fault: JournalFault, folder: Folder) -> Result<Started, OpenFault>
-    ensures { StartsWithout folder.files fault result }
+    ensures started { IfOk result (λ opened.
+        started folder.files (Err fault) ≡ Ok (started_of opened)) }
+    ensures refused { IfErr result (λ refused. (started folder.files (Err fault) ≡ Err fault)
+        × (refused ≡ refused_as fault)) }
 {
     match fault {
         JournalFault::FolderChanged { halfway: false } => Ok(Started {
@@ -117,8 +118,13 @@ fn read_store<S: FolderStore>(
     alloc: Global,
     store: &mut S,
 ) -> Result<(Folder, Option<Vec<u8>>), OpenFault>
-    ensures read { ReadsStore S.Store store.old store.new result }
+    ensures read { S.honest store.old → IfOk result (λ read. WasRead (S.contents store.old)
+        read.0.files (option_map (λ bytes. bytes.items) read.1)) }
+    ensures refused { S.honest store.old
+        → IfErr result (IsUnopened (S.contents store.old) (S.contents store.new)) }
     ensures reads { OnlyReads S.Store store.old store.new }
+    ensures keeps { KeepsStore S.Store store.old store.new result }
+    ensures possible { S.honest store.old → S.impossible store.new ≡ S.impossible store.old }
 {
     let folder = read_folder(alloc, store)?;
     let journal = store.read_journal(alloc)?;
@@ -128,17 +134,10 @@ fn read_store<S: FolderStore>(
 // Takes back a halfway command in the store: makes the changes that lead back (`way_left`), puts the settled journal of
 // the session before the command, and returns that session. The halfway journal is already in the store.
 fn take_back<S: FolderStore>(store: &mut S, halfway: Halfway) -> Result<Session, OpenFault>
-    // The session is the one before the command, and an honest store is led back to it.
     ensures session { IfOk result (λ session. session ≡ session_before halfway) }
     ensures taken { S.honest store.old → TakesWayBack S.Store store.old store.new
         (session_of_kept (session_before halfway)) (way_left halfway) result }
-    // The store stays honest. Only the store or memory can fail; failures and calls are counted.
-    ensures honest { S.honest store.old → S.honest store.new }
-    ensures failures { CountsOpeningFailures (S.failures store.old) (S.failures store.new) result }
-    ensures no_journal { (IsErrOf result OpenFault.JournalInvalid → ⊥)
-        × (IsErrOf result OpenFault.FolderChanged → ⊥) }
-    ensures calls { CountsCalls (length (way_left halfway) + 1)
-        (S.writing_calls store.old) (S.writing_calls store.new) result }
+    ensures keeps { KeepsStore S.Store store.old store.new result }
 {
     let journals = Journals {
         halfway: None,
@@ -198,7 +197,8 @@ fn needs_no_history(
     folder: &Folder,
     bytes: &[u8],
 ) -> Result<bool>
-    ensures verify { result ≡ Ok true → IsVerifyCommand command.entry }
+    ensures verify { result ≡ Ok true
+        → IsSomeAnd command.entry (λ command. IsVerify (command_of command.now)) }
     ensures opens { result ≡ Ok true → OpensAsIs folder.now.files bytes.now }
 {
     match command {
@@ -214,7 +214,10 @@ pub(crate) fn open_for<S: FolderStore>(
     store: &mut S,
     command: Option<&Command>,
 ) -> Result<Started, OpenFault>
-    ensures opened { StartsFor S.Store store.old store.new command.entry result }
+    ensures opened { IfOk result (λ started. (opened : Opening) × StandsFor
+        (IsSomeAnd command.entry (λ command. IsVerify (command_of command.now)))
+        opened (started_of started)
+        × (S.honest store.old → IsOpened (S.contents store.old) (S.contents store.new) opened)) }
     ensures opens { S.honest store.old → OpensStore S.Store store.old store.new result }
     ensures keeps { KeepsStore S.Store store.old store.new result }
 {

@@ -1,16 +1,15 @@
 //! One command on an opened store and its session. `perform` prepares it in memory (`Session::prepare`, then
 //! `Session::journals`), writes it to the store (`write_down`), and commits it to the session (`Session::commit`).
-ghost use Rattle.std.specs.Prelude.{◌≡◌, ◌+◌, ◌<◌, ◌≤◌, IfOk, IfErr, OnOk, OnErr};
+ghost use Rattle.std.specs.Prelude.{◌≡◌, ◌+◌, ◌≤◌, ℕ, [], IfOk, IfErr, IsErrOf, OnOk, OnErr, Some, take};
+ghost use Rattle.par2_spec.specs.Changes.{effects};
+ghost use Rattle.par2_spec.specs.Commands.{Undo, Redo};
+ghost use Rattle.par2_spec.specs.Refusals.{early_refusal_of};
 ghost use Rattle.par2_spec.specs.Sessions.{session_of_kept, changes_requested};
 ghost use Rattle.par2_spec.specs.Stores.{Contents};
 ghost use Rattle.par2_spec.specs.Views.{command_of};
 ghost use Rattle.par2_journal.specs.Commands.{IsAfter, LeadsFrom};
-ghost use Rattle.par2_tool.specs.Answering.{Answers, PerformRefusesEarly, RefusesRedo, RefusesUndo};
-ghost use Rattle.par2_tool.specs.Calls.{AreAtMost, calls_requested};
-ghost use Rattle.par2_tool.specs.StoreContents.{FingerprintsDifferAlong, OpensAsBeforeOrAfter};
-ghost use Rattle.par2_tool.specs.Performing.{AreSomeMade, IsVerify, IsWritten};
-ghost use Rattle.par2_tool.specs.ReportedFailures.{IsRefused, IsSession};
-ghost use Rattle.par2_tool.specs.StoreWrites.{ContentsAreDurable, StaysKept};
+ghost use Rattle.par2_tool.specs.Opening.{AreAtMost, ContentsAreDurable, IsVerify, StaysKept};
+ghost use Rattle.par2_tool.specs.Performing.{FingerprintsDifferAlong, IsAnswer, IsRefused, IsWritten, OpensAsBeforeOrAfter, calls_requested, outcome_of};
 
 use crate::writing::write_down;
 use par2_disk::FolderStore;
@@ -53,7 +52,7 @@ impl From<AllocError> for PerformFault {
 
 impl From<PerformFault> for Failure {
     ghost use Rattle.std.specs.Prelude.{◌≡◌};
-    ghost use Rattle.par2_tool.specs.ReportedFailures.{failure_for};
+    ghost use Rattle.par2_tool.specs.Performing.{failure_for};
 
     ghost from_gives = { λ fault failure. failure ≡ failure_for fault };
 
@@ -83,7 +82,8 @@ pub fn perform<S: FolderStore>(
     // action's, and the store holds the new session. A verify changes neither.
     ensures session { OnOk result (IsAfter (command_of command.now) session.old session.new) }
     ensures leads { OnOk result (LeadsFrom (command_of command.now) session.old) }
-    ensures answer { IfOk result (Answers session.old (command_of command.now)) }
+    ensures answer { IfOk result (λ outcome. IsAnswer (session_of_kept session.old)
+        (command_of command.now) (outcome_of outcome)) }
     ensures written { S.honest store.old → (S.contents store.old).files
         ≡ session.old.folder.files → OnOk result (IsWritten (command_of command.now)
         (session_of_kept session.new) (S.contents store.old) (S.contents store.new)) }
@@ -93,21 +93,27 @@ pub fn perform<S: FolderStore>(
     // allocated.
     ensures refused { IfErr result (IsRefused (command_of command.now) session.old session.new
         (S.failures store.old) (S.failures store.new)) }
-    ensures early { PerformRefusesEarly session.old (command_of command.now) result }
-    ensures nothing_to_undo { RefusesUndo session.old (command_of command.now) result }
-    ensures nothing_to_redo { RefusesRedo session.old (command_of command.now) result }
+    ensures early { (fault : Fault)
+        → early_refusal_of session.old.folder.files (command_of command.now) ≡ Some fault
+        → IsErrOf result (PerformFault.Session (SessionFault.Plan fault)) }
+    ensures nothing_to_undo { command_of command.now ≡ Undo → session.old.undos ≡ []
+        → IsErrOf result (PerformFault.Session SessionFault.NothingToUndo) }
+    ensures nothing_to_redo { command_of command.now ≡ Redo → session.old.redos ≡ []
+        → IsErrOf result (PerformFault.Session SessionFault.NothingToRedo) }
     // A refusal also leaves an honest store as it was. If the store fails, it opens as before or as after the action,
     // and a prefix of the changes is made.
-    ensures unchanged { S.honest store.old
-        → IfErr result (λ fault. IsSession fault → S.contents store.new ≡ S.contents store.old) }
+    ensures unchanged { (fault : SessionFault) → S.honest store.old
+        → IsErrOf result (PerformFault.Session fault)
+        → S.contents store.new ≡ S.contents store.old }
     ensures stopped { S.honest store.old
         → (S.contents store.old).files ≡ session.old.folder.files
         → FingerprintsDifferAlong (session_of_kept session.old) (command_of command.now)
         → OnErr result (OpensAsBeforeOrAfter (session_of_kept session.old)
         (command_of command.now) (S.contents store.old) (S.contents store.new)) }
-    ensures in_order { S.honest store.old → OnErr result (AreSomeMade
+    ensures in_order { S.honest store.old → OnErr result (IfOk
         (changes_requested (session_of_kept session.old) (command_of command.now))
-        (S.contents store.old).files (S.contents store.new).files) }
+        (λ changes. (n : ℕ) × ((S.contents store.new).files
+        ≡ effects (S.contents store.old).files (take n changes)))) }
     // What a power cut leaves, after the call and at any moment during it.
     ensures durable { StaysKept S.Store store.old store.new result }
     ensures cut { S.honest store.old → ContentsAreDurable S.Store store.old
@@ -127,8 +133,8 @@ pub fn perform<S: FolderStore>(
         + calls_requested (session_of_kept session.old) (command_of command.now)) }
     ensures at_most { AreAtMost (calls_requested (session_of_kept session.old)
         (command_of command.now)) (S.writing_calls store.old) (S.writing_calls store.new) }
-    ensures unwritten { IfErr result (λ fault. IsSession fault
-        → S.writing_calls store.new ≡ S.writing_calls store.old) }
+    ensures unwritten { (fault : SessionFault) → IsErrOf result (PerformFault.Session fault)
+        → S.writing_calls store.new ≡ S.writing_calls store.old }
 {
     // For the prover: a store left by a stop opens only if the session's entries can be walked, which the contract of
     // `folder` says. `ready_changes_apply` says that the prepared changes apply.

@@ -10,7 +10,7 @@ ghost use Rattle.par2_repair.specs.ReportViews.{state_view, target_report_of, re
 ghost use Rattle.par2_output.specs.PrintedValues.{step_shown, state_shown, target_shown, words_given};
 ghost use Rattle.par2_output.specs.PrinterStates.{IsFlushed, PrinterWrote, failures_of, writer_of};
 ghost use Rattle.par2_tool.specs.Performing.{outcome_of};
-ghost use Rattle.par2_tool.specs.RunResult.{IsPrinted};
+ghost use Rattle.par2_tool.specs.Runs.{IsPrinted};
 
 use crate::performing::Outcome;
 use par2_journal::{Report, State, Step, TargetReport};

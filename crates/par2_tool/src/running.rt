@@ -1,12 +1,14 @@
 //! A whole run: `run` reads the words as a command, `carry_out` opens the store and performs it, and `run` prints the
 //! result. `start` calls `headline::run`, which calls this `run` and proves more clauses of it by laws.
-ghost use Rattle.std.specs.Prelude.{◌≡◌, ◌≤◌, IsTrue, map, string_bytes};
+ghost use Rattle.std.specs.Prelude.{◌≡◌, ◌≤◌, Bool, IfErr, IfOk, IsTrue, map, string_bytes};
 ghost use Rattle.par2_spec.specs.Commands.{Action as Requested};
+ghost use Rattle.par2_spec.specs.Output.{output_of};
 ghost use Rattle.par2_spec.specs.Stores.{Contents};
 ghost use Rattle.par2_spec.specs.Views.{command_of};
-ghost use Rattle.par2_tool.specs.CommandLines.{AskFor};
-ghost use Rattle.par2_tool.specs.RunResult.{IsBack, IsCarriedOut, IsRun, IsStopped};
-ghost use Rattle.par2_tool.specs.StoreWrites.{ContentsAreDurable};
+ghost use Rattle.par2_output.specs.PrintedValues.{words_requested};
+ghost use Rattle.par2_tool.specs.Opening.{ContentsAreDurable};
+ghost use Rattle.par2_tool.specs.Performing.{outcome_of};
+ghost use Rattle.par2_tool.specs.Runs.{Answered, AskFor, Failed, IsBack, IsResult, IsRun, IsStopped};
 
 use crate::opening::open_for;
 use crate::performing::{Outcome, perform};
@@ -30,11 +32,17 @@ fn lacks_history(dropped: bool, command: &Command) -> bool
 // A command's outcome and whether a history was dropped; or why it failed.
 type Answer = Result<(Outcome, bool), Failure>;
 
-// Opens the store for the command and performs it; `run` prints the result. `IsCarriedOut`: a failure has its cause,
-// and an honest store shows the effect of the result. `IsStopped`: it opens as before the command or as after it.
+// Opens the store for the command and performs it; `run` prints the result. `IsResult`: a failure has its cause, and an
+// honest store shows the effect of the result. `IsStopped`: it opens as before the command or as after it.
 fn carry_out<S: FolderStore>(alloc: Global, store: &mut S, command: &Command) -> Answer
     ensures honest { S.honest store.old → S.honest store.new }
-    ensures comes { IsCarriedOut S.Store (command_of command.now) store.old store.new result }
+    // Whether a history was dropped may differ where nothing shows it.
+    ensures done { IfOk result (λ done. (dropped : Bool)
+        × (output_of dropped (outcome_of done.0) ≡ output_of done.1 (outcome_of done.0))
+        × IsResult S.Store (command_of command.now) store.old store.new
+        (Answered dropped (outcome_of done.0))) }
+    ensures failed { IfErr result (λ failure. IsResult S.Store (command_of command.now)
+        store.old store.new (Failed (words_requested (command_of command.now)) failure)) }
     ensures cut { S.honest store.old → ContentsAreDurable S.Store store.old
         → (left : Contents) → S.crash_states store.new left
         → IsStopped (command_of command.now) (S.contents store.old) left }

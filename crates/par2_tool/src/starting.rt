@@ -1,9 +1,9 @@
 //! Startup: `main` calls `start` once, with its arguments, its store and its two printers. `words_of` takes the words
 //! after the program's name (`after_name`, then `words_in`), and `run` (headline.rt) does the rest.
-ghost use Rattle.std.specs.Prelude.{◌≡◌, drop, map, string_bytes, IfErr, IfOk, IsErrOf, IsOk};
+ghost use Rattle.std.specs.Prelude.{◌≡◌, [], drop, map, string_bytes, IfErr, IfOk, IsErrOf, IsOk};
 ghost use Rattle.std.specs.IoError.{error_kind};
 ghost use Rattle.std.specs.Vec.Iter.{into_iter_items};
-ghost use Rattle.par2_tool.specs.RunResult.{IsNotStarted, IsRun};
+ghost use Rattle.par2_tool.specs.Runs.{Failed, IsRun, IsShown};
 
 use crate::headline::run;
 use crate::printing::fail;
@@ -54,7 +54,7 @@ fn words_of(given: io::Result<Args>, alloc: Global) -> Result<Vec<String>, Failu
 
 /// Runs the program with the arguments after the first, which is the program's name, and returns the exit status. If
 /// they can't be read, prints the reason on the error writer and leaves the store as it is. `IsRun`: a run with these
-/// words; `IsNotStarted`: only the reason is printed.
+/// words; `IsShown`: only the reason is printed.
 pub fn start<S: FolderStore, O: Write, E: Write>(
     alloc: Global,
     given: io::Result<Args>,
@@ -67,11 +67,11 @@ pub fn start<S: FolderStore, O: Write, E: Write>(
         IsRun S.Store O.contents E.contents words
         store.old store.new out.old out.new err.old err.new result) }
     ensures memory { IfErr given (λ error. error_kind error ≡ ErrorKind.OutOfMemory
-        → IsNotStarted E.contents store.old store.new out.old out.new err.old err.new result
-        (Failure.Refused Fault.Memory)) }
+        → IsShown (Failed [] (Failure.Refused Fault.Memory)) O.contents out.old out.new
+        E.contents err.old err.new result × (store.new ≡ store.old)) }
     ensures arguments { IfErr given (λ error. (error_kind error ≡ ErrorKind.OutOfMemory → ⊥)
-        → IsNotStarted E.contents store.old store.new out.old out.new err.old err.new result
-        Failure.Arguments) }
+        → IsShown (Failed [] Failure.Arguments) O.contents out.old out.new
+        E.contents err.old err.new result × (store.new ≡ store.old)) }
 {
     match words_of(given, alloc) {
         Ok(words) => run(alloc, words.as_slice(), store, out, err),

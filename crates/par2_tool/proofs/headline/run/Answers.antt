@@ -1,6 +1,6 @@
-use Rattle.par2_tool.proofs.Common.{◌≡◌, ◌≢◌, ◌⊎◌, ◌<◌, inl, ℕ, List, Some, sym, ap, subst, ◌∙◌, map, arith, Action, Repair, Undo, AskFor, Folder, AllByRecursion, may_refuse, TakesEffect, AskForRepair, string_bytes, false≢true}
+use Rattle.par2_tool.proofs.Common.{◌≡◌, ◌≢◌, ◌⊎◌, ◌<◌, inl, ℕ, List, Some, sym, ap, subst, ◌∙◌, map, arith, Action, Repair, Undo, AskFor, TakesEffect, AskForRepair, Folder, AllByRecursion, may_refuse, string_bytes, false≢true}
 use Rattle.std.specs.FinMap as map_of
-use Rattle.par2_tool.proofs.RunEffects.{IsRefused, accepted_with_zero, effect_of, repair_refused, repaired, stopped_effect}
+use Rattle.par2_tool.proofs.RunEffects.{IsRefused, Leaves, accepted_with_zero, effect_of, leaves_of, repair_refused, repaired, stopped_effect}
 use Rattle.par2_tool.proofs.RunCalls.{verify_makes_none}
 use Rattle.par2_tool.proofs.Statuses.{own_status, shown_status, reported_of}
 use Rattle.par2_tool.proofs.UndoneRuns.{leaves_first, leaves_older}
@@ -12,6 +12,12 @@ status_of_run : (g : _) (c : After-run g) → (c.run.result ≡ own_status c.run
 status_of_run g c =
     shown_status c.run.ensures.reported.run_result g.O.Write.contents c.args.out.now c.run.new.out g.E.Write.contents c.args.err.now c.run.new.err c.run.result c.run.ensures.reported.shown
 
+-- what it leaves, if its words ask for this action
+left_so : (g : _) (c : After-run g) (action : Action) → g.S.Store.honest c.args.store.now → AskFor (map string_bytes c.args.words.now) action
+    → Leaves (map string_bytes c.args.words.now) action (g.S.Store.contents c.args.store.now) (g.S.Store.contents c.run.new.store) c.run.ensures.reported.run_result
+left_so g c action honest asks =
+    leaves_of g.S.Store (map string_bytes c.args.words.now) action c.args.store.now c.run.new.store asks c.run.ensures.reported.run_result c.run.ensures.reported.reported honest
+
 -- ---- a repair
 
 -- a repair that ends with a status below 6 other than 0 and 3 is refused
@@ -22,16 +28,14 @@ refused_repair g c folder base extras honest asks n is zero three low =
     let words = map string_bytes c.args.words.now in
     let old = g.S.Store.contents c.args.store.now in
     let new = g.S.Store.contents c.run.new.store in
-    let reported = c.run.ensures.reported in
     subst (IsRefused folder old new (Repair base extras asks.purge)) is
-    (repair_refused c.stores_open_in_one_way.ensures words old new folder base extras asks reported.run_result c.run.result (status_of_run g c) (reported.leaves honest)
+    (repair_refused c.stores_open_in_one_way.ensures words old new folder base extras asks c.run.ensures.reported.run_result c.run.result (status_of_run g c) (left_so g c _ honest asks.requested)
     (λ e. zero (sym is ∙ e)) (λ e. three (sym is ∙ e)) (omega (arith, is, low)))
 
 pub returns-clause-restored : goal.returns-clause-restored
 returns-clause-restored g c folder base extras originals s honest asks original zero =
-    let reported = c.run.ensures.reported in
     let is = repaired c.stores_open_in_one_way.ensures (map string_bytes c.args.words.now) (g.S.Store.contents c.args.store.now) (g.S.Store.contents c.run.new.store)
-    folder base extras asks reported.run_result c.run.result (status_of_run g c) (reported.leaves honest) zero in
+    folder base extras asks c.run.ensures.reported.run_result c.run.result (status_of_run g c) (left_so g c _ honest asks.requested) zero in
     subst (λ (left : Folder). AllByRecursion (λ file. map_of.get left file.0 ≡ Some file.1) originals) (sym is.left)
     (c.accepted_repair_leaves_the_files.ensures folder base extras asks.purge originals s original is.accepted)
 
@@ -53,9 +57,8 @@ returns-clause-unchanged g c folder base extras honest asks two =
 
 pub returns-clause-inputs_restored : goal.returns-clause-inputs_restored
 returns-clause-inputs_restored g c before damaged a base extras honest asks follows zero =
-    let reported = c.run.ensures.reported in
     let is = repaired c.stores_open_in_one_way.ensures (map string_bytes c.args.words.now) (g.S.Store.contents c.args.store.now) (g.S.Store.contents c.run.new.store)
-    damaged base extras asks reported.run_result c.run.result (status_of_run g c) (reported.leaves honest) zero in
+    damaged base extras asks c.run.ensures.reported.run_result c.run.result (status_of_run g c) (left_so g c _ honest asks.requested) zero in
     subst (λ (left : Folder). AllByRecursion (λ name. map_of.get left name ≡ map_of.get before name) a.inputs) (sym is.left)
     (c.repair_gives_the_created_files_back.ensures before damaged a base extras asks.purge follows is.accepted)
 
@@ -83,7 +86,7 @@ returns-clause-inputs_undetermined g c before damaged a base extras honest asks 
 effect_with_zero : (g : _) (c : After-run g) (action : Action) → g.S.Store.honest c.args.store.now → AskFor (map string_bytes c.args.words.now) action → c.run.result ≡ 0
     → TakesEffect action (g.S.Store.contents c.args.store.now) (g.S.Store.contents c.run.new.store)
 effect_with_zero g c action honest requested zero =
-    inl (accepted_with_zero (map string_bytes c.args.words.now) _ _ action requested c.run.ensures.reported.run_result c.run.result (status_of_run g c) (c.run.ensures.reported.leaves honest) zero)
+    inl (accepted_with_zero (map string_bytes c.args.words.now) action _ _ c.run.ensures.reported.run_result c.run.result (status_of_run g c) (left_so g c action honest requested) zero)
 
 pub returns-clause-undone : goal.returns-clause-undone
 returns-clause-undone g c started honest requested opens zero =
@@ -104,15 +107,12 @@ returns-clause-done g c action honest requested zero =
 
 pub returns-clause-effect : goal.returns-clause-effect
 returns-clause-effect g c action honest requested apart =
-    let reported = c.run.ensures.reported in
-    effect_of (map string_bytes c.args.words.now) (g.S.Store.contents c.args.store.now) (g.S.Store.contents c.run.new.store) action requested reported.run_result (reported.leaves honest) apart
+    effect_of (map string_bytes c.args.words.now) action (g.S.Store.contents c.args.store.now) (g.S.Store.contents c.run.new.store) c.run.ensures.reported.run_result (left_so g c action honest requested) apart
 
 pub returns-clause-cut : goal.returns-clause-cut
 returns-clause-cut g c action honest durable requested apart left may =
-    stopped_effect (g.S.Store.contents c.args.store.now) left action (c.run.ensures.cut action honest durable requested left may apart.back apart.along)
+    stopped_effect (g.S.Store.contents c.args.store.now) left action apart (c.run.ensures.cut action honest durable requested left may)
 
 pub returns-clause-unwritten : goal.returns-clause-unwritten
 returns-clause-unwritten g c base extras honest requested none =
-    let reported = c.run.ensures.reported in
-    verify_makes_none (map string_bytes c.args.words.now) (g.S.Store.contents c.args.store.now) (g.S.Store.writing_calls c.args.store.now) (g.S.Store.writing_calls c.run.new.store)
-    base extras none requested reported.run_result (reported.calls honest)
+    verify_makes_none g.S.Store (map string_bytes c.args.words.now) c.args.store.now c.run.new.store base extras none requested c.run.ensures.reported.run_result honest c.run.ensures.reported.reported

@@ -1,5 +1,5 @@
-use Rattle.par2_tool.proofs.Common.{rules, Some, Ok, sym, ap, subst, ◌∙◌, Vec, ℕ, IfOk, option_map, Global, Started, started_of, IsOpened, WasRead, LeavesUnopened}
-use Rattle.par2_tool.proofs.Outcomes.{opened_as_is, opened_new, stands, stands_for_verify, stands_itself}
+use Rattle.par2_tool.proofs.Common.{rules, Some, Ok, sym, ap, subst, ◌∙◌, Vec, ℕ, inl, inr, refl, IfOk, option_map, Global, Started, started_of, IsOpened, WasRead}
+use Rattle.par2_tool.proofs.Outcomes.{opened_as_is, opened_new, stands}
 use Rattle.par2_tool.proofs.Openings.{bytes_read, opens_after_reading, reads_opens}
 use Rattle.par2_tool.proofs.opening.open_for.Goals.{After-open_with}
 use Rattle.par2_tool.proofs.opening.open_for.Goals as goal
@@ -10,9 +10,9 @@ returns-in_default-clause-opened g c =
     let files = c.in_ok-folder.folder.files in
     let opened = started_of c.without_history.result in (
       opened,
-      stands_itself c.args.command opened,
+      inl refl,
       λ honest.
-          let read = subst (λ journal. WasRead old files (option_map (λ (bytes : Vec ℕ Global). bytes.items) journal)) c.in_default.is (c.in_ok-folder.ensures.read.read honest) in
+          let read = subst (λ journal. WasRead old files (option_map (λ (bytes : Vec ℕ Global). bytes.items) journal)) c.in_default.is (c.in_ok-folder.ensures.read honest) in
           subst (λ k. IsOpened old k opened) (sym (c.read_store.ensures.reads.same honest))
           (subst (λ (s : Started). IsOpened old old s) (sym c.without_history.ensures) (opened_new old files read)),
     )
@@ -26,9 +26,9 @@ returns-then-branch-clause-opened g c =
     let found = c.in_ok-needs_no_history.ensures.opens is in
     let standing = ap (λ (t : Started). t.session.folder) c.without_history-then-branch.ensures in (
       found.0,
-      stands_for_verify c.args.command found.0 (started_of c.without_history-then-branch.result) (c.in_ok-needs_no_history.ensures.verify is) (found.2 ∙ sym standing),
+      inr (c.in_ok-needs_no_history.ensures.verify is, found.2 ∙ sym standing),
       λ honest.
-          let read = bytes_read old files c.in_ok-folder.journal c.in-Some.bytes bytes (c.in_ok-folder.ensures.read.read honest) c.in-Some.is c.deref.ensures.value in
+          let read = bytes_read old files c.in_ok-folder.journal c.in-Some.bytes bytes (c.in_ok-folder.ensures.read honest) c.in-Some.is c.deref.ensures.value in
           subst (λ k. IsOpened old k found.0) (sym (c.read_store.ensures.reads.same honest)) (opened_as_is old files bytes found.0 read found.1 found.2),
     )
 
@@ -36,13 +36,13 @@ returns-then-branch-clause-opened g c =
 read_so : (g : _) (c : After-open_with g) → g.S.Store.honest c.args.store.now → WasRead (g.S.Store.contents c.args.store.now) c.in_ok-folder.folder.files (Some c.deref-2.result.now)
 read_so g c honest =
     bytes_read (g.S.Store.contents c.args.store.now) c.in_ok-folder.folder.files c.in_ok-folder.journal c.in-Some.bytes c.deref-2.result.now
-    (c.in_ok-folder.ensures.read.read honest) c.in-Some.is c.deref-2.ensures.value
+    (c.in_ok-folder.ensures.read honest) c.in-Some.is c.deref-2.ensures.value
 
 pub returns-clause-opened : goal.returns-clause-opened
 returns-clause-opened g c =
     let new = g.S.Store.contents c.open_with.new.store in
     let result = c.open_with.result in
-    stands c.args.command (g.S.Store.honest c.args.store.now) result (g.S.Store.contents c.args.store.now) new
+    stands _ (g.S.Store.honest c.args.store.now) result (g.S.Store.contents c.args.store.now) new
     (λ honest. subst (λ k. WasRead k c.in_ok-folder.folder.files (Some c.deref-2.result.now) → IfOk result (λ s. IsOpened k new (started_of s))) (c.read_store.ensures.reads.same honest)
     (c.open_with.ensures.opened (c.read_store.ensures.reads.honest honest)) (read_so g (goal.at.returns-clause-opened g c).After-open_with honest))
 
@@ -50,23 +50,21 @@ pub returns-clause-opens : goal.returns-clause-opens
 returns-clause-opens g c honest =
     let reads = c.read_store.ensures.reads in
     let read = subst (λ k. WasRead k c.in_ok-folder.folder.files (Some c.deref-2.result.now)) (sym (reads.same honest)) (read_so g (goal.at.returns-clause-opens g c).After-open_with honest) in
-    opens_after_reading g.S.Store c.args.store.now c.read_store.new.store c.open_with.new.store c.open_with.result reads honest (c.read_store.ensures.read.possible honest)
+    opens_after_reading g.S.Store c.args.store.now c.read_store.new.store c.open_with.new.store c.open_with.result reads honest (c.read_store.ensures.possible honest)
     (c.open_with.ensures.opens (reads.honest honest) read)
 
 pub returns-in_err-folder-clause-opens : goal.returns-in_err-folder-clause-opens
 returns-in_err-folder-clause-opens g c honest =
-    let unopened : LeavesUnopened (g.S.Store.contents c.args.store.now) (g.S.Store.contents c.read_store.new.store) c.from_residual.result = search rules in
-    reads_opens g.S.Store c.args.store.now c.read_store.new.store c.from_residual.result c.read_store.ensures.reads honest (c.read_store.ensures.read.possible honest) unopened
+    reads_opens g.S.Store c.args.store.now c.read_store.new.store c.from_residual.result c.read_store.ensures.reads honest (c.read_store.ensures.possible honest) (search rules)
 
 pub returns-in_default-clause-opens : goal.returns-in_default-clause-opens
 returns-in_default-clause-opens g c honest =
-    reads_opens g.S.Store c.args.store.now c.read_store.new.store _ c.read_store.ensures.reads honest (c.read_store.ensures.read.possible honest) (record { refused = tt; stopped = λ _. tt })
+    reads_opens g.S.Store c.args.store.now c.read_store.new.store _ c.read_store.ensures.reads honest (c.read_store.ensures.possible honest) tt
 
 pub returns-in_err-needs_no_history-clause-opens : goal.returns-in_err-needs_no_history-clause-opens
 returns-in_err-needs_no_history-clause-opens g c honest =
-    let unopened : LeavesUnopened (g.S.Store.contents c.args.store.now) (g.S.Store.contents c.read_store.new.store) c.from_residual-in_err-needs_no_history.result = search rules in
-    reads_opens g.S.Store c.args.store.now c.read_store.new.store c.from_residual-in_err-needs_no_history.result c.read_store.ensures.reads honest (c.read_store.ensures.read.possible honest) unopened
+    reads_opens g.S.Store c.args.store.now c.read_store.new.store c.from_residual-in_err-needs_no_history.result c.read_store.ensures.reads honest (c.read_store.ensures.possible honest) (search rules)
 
 pub returns-then-branch-clause-opens : goal.returns-then-branch-clause-opens
 returns-then-branch-clause-opens g c honest =
-    reads_opens g.S.Store c.args.store.now c.read_store.new.store _ c.read_store.ensures.reads honest (c.read_store.ensures.read.possible honest) (record { refused = tt; stopped = λ _. tt })
+    reads_opens g.S.Store c.args.store.now c.read_store.new.store _ c.read_store.ensures.reads honest (c.read_store.ensures.possible honest) tt

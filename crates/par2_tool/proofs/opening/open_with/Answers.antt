@@ -1,5 +1,5 @@
-use Rattle.par2_tool.proofs.Common.{inl, Ok, refl, sym, subst, rules, err_from_is_err_and, Halfway, Opens, KeptSession, session_of_kept, opened_of, session_before, way_left, OpensAsBefore, with_history, IsOpened}
-use Rattle.par2_tool.proofs.Calls.{back_calls, refused_calls}
+use Rattle.par2_tool.proofs.Common.{inl, Ok, refl, sym, subst, rules, Halfway, Opens, KeptSession, session_of_kept, opened_of, session_before, way_left, OpensAsBefore, with_history, IsOpened}
+use Rattle.par2_tool.proofs.Calls.{back_calls}
 use Rattle.par2_tool.proofs.Openings.{any_err, counted_without, holds_settled, opened_taken_back, opens_still, opens_without, unopened_without, way_applies, stays_keeps, stays_opens}
 use Rattle.par2_tool.proofs.opening.open_with.Goals.{In-Halfway}
 use Rattle.par2_tool.proofs.opening.open_with.Goals as goal
@@ -10,17 +10,17 @@ opens_so g c = subst (λ found. Opens c.args.folder.files c.args.bytes.now (Ok (
 
 -- the journal is refused
 pub returns-in-Err-clause-opened : goal.returns-in-Err-clause-opened
-returns-in-Err-clause-opened g c honest read = opens_without _ _ _ c.in-Err.fault c.without_journal.result _ c.in-Err.ensures.files c.without_journal.ensures read c.in-Err.ensures.refused
+returns-in-Err-clause-opened g c honest read = opens_without _ _ _ c.in-Err.fault c.without_journal.result _ c.in-Err.ensures.files c.without_journal.ensures.started c.without_journal.ensures.refused read c.in-Err.ensures.refused
 
 pub returns-in-Err-clause-opens : goal.returns-in-Err-clause-opens
 returns-in-Err-clause-opens g c honest read =
     stays_opens g.S.Store c.args.store.now c.without_journal.result
-    (unopened_without _ _ _ c.in-Err.fault c.without_journal.result _ c.in-Err.ensures.files c.without_journal.ensures read c.in-Err.ensures.refused)
+    (unopened_without _ _ _ c.in-Err.fault c.without_journal.result _ c.in-Err.ensures.files c.without_journal.ensures.started c.without_journal.ensures.refused read c.in-Err.ensures.refused)
 
 pub returns-in-Err-clause-keeps : goal.returns-in-Err-clause-keeps
 returns-in-Err-clause-keeps g c =
     stays_keeps g.S.Store c.args.store.now c.without_journal.result
-    (counted_without (g.S.Store.contents c.args.store.now) _ c.args.bytes.now c.in-Err.fault c.without_journal.result _ c.in-Err.ensures.files c.without_journal.ensures _)
+    (counted_without (g.S.Store.contents c.args.store.now) _ c.args.bytes.now c.in-Err.fault c.without_journal.result _ c.in-Err.ensures.files c.without_journal.ensures.started c.without_journal.ensures.refused _)
 
 pub returns-in-Settled-clause-opened : goal.returns-in-Settled-clause-opened
 returns-in-Settled-clause-opened g c honest read =
@@ -50,18 +50,13 @@ returns-in_err-session-in-Halfway-clause-opens g c honest read =
     let opens = opens_so g (goal.at.returns-in_err-session-in-Halfway-clause-opens g c).In-Halfway in
     let taken = c.take_back.ensures.taken honest in
     record {
-      unopened = record {
-        refused = search rules;
-        stopped = λ apart.
-            any_err c.from_residual.result (OpensAsBefore old (g.S.Store.contents c.take_back.new.store))
-            (opens_still old (g.S.Store.contents c.take_back.new.store) files bytes session back read opens apart (c.in_err-session-in-Halfway.ensures.taken honest).stopped);
-      };
+      refused = search rules;
+      stopped = λ apart.
+          any_err c.from_residual.result (OpensAsBefore old (g.S.Store.contents c.take_back.new.store))
+          (opens_still old (g.S.Store.contents c.take_back.new.store) files bytes session back read opens apart (c.in_err-session-in-Halfway.ensures.taken honest).stopped);
       cut = λ durable apart left may. opens_still old left files bytes session back read opens apart (taken.remains durable left may);
       possible = taken.possible (way_applies old files bytes session back read opens);
-      calls =
-          let reported = err_from_is_err_and c.from_residual.result c.from_residual.ensures.1 in
-          back_calls old files bytes session back _ _ c.from_residual.result read opens
-          (refused_calls _ _ _ c.from_residual.result _ reported.0 reported.1 reported.2 c.in_err-session-in-Halfway.ensures.calls.refused);
+      calls = back_calls old files bytes session back _ _ c.from_residual.result read opens (search rules);
     }
 
 pub returns-in_ok-session-in-Halfway-clause-opens : goal.returns-in_ok-session-in-Halfway-clause-opens
@@ -74,16 +69,16 @@ returns-in_ok-session-in-Halfway-clause-opens g c honest read =
     let opens = opens_so g (goal.at.returns-in_ok-session-in-Halfway-clause-opens g c).In-Halfway in
     let taken = c.take_back.ensures.taken honest in
     record {
-      unopened = record { refused = tt; stopped = λ _. tt };
+      refused = tt;
+      stopped = λ _. tt;
       cut = λ durable apart left may. opens_still old left files bytes session back read opens apart (taken.remains durable left may);
       possible = taken.possible (way_applies old files bytes session back read opens);
-      calls =
-          back_calls old files bytes session back _ _ _ read opens (record { opened = c.in_ok-session-in-Halfway.ensures.calls.opened; refused = tt });
+      calls = back_calls old files bytes session back _ _ _ read opens (record { opened = (c.in_ok-session-in-Halfway.ensures.taken honest).calls.opened; refused = tt });
     }
 
 -- nothing is done to the store
 pub returns-in-Settled-clause-opens : goal.returns-in-Settled-clause-opens
-returns-in-Settled-clause-opens g c honest read = stays_opens g.S.Store c.args.store.now _ (record { refused = tt; stopped = λ _. tt })
+returns-in-Settled-clause-opens g c honest read = stays_opens g.S.Store c.args.store.now _ tt
 
 pub returns-in-Settled-clause-keeps : goal.returns-in-Settled-clause-keeps
 returns-in-Settled-clause-keeps g c = stays_keeps g.S.Store c.args.store.now _ tt

@@ -1,5 +1,5 @@
-use Rattle.par2_tool.proofs.Common.{rules, ◌≡◌, IsTrue, map, length, sym, ap, subst, ◌∙◌, arith, None, length-map, are_applicable, session_of_kept, change_of, session_before, way_left, Contents, IsStillHalfway, IsStoppedAt}
-use Rattle.par2_tool.proofs.Openings.{still_halfway}
+use Rattle.par2_tool.proofs.Common.{rules, inl, refl, ◌≡◌, IsTrue, map, length, sym, ap, subst, ◌∙◌, arith, None, length-map, are_applicable, session_of_kept, change_of, session_before, way_left, Contents, IsStillHalfway, IsStoppedAt}
+use Rattle.par2_tool.proofs.Openings.{any_err, still_halfway}
 use Rattle.par2_tool.proofs.opening.take_back.Goals.{After-write_down}
 use Rattle.par2_tool.proofs.opening.take_back.Goals as goal
 
@@ -11,37 +11,43 @@ still_so g c left stop =
     let session = session_of_kept (session_before c.args.halfway) in
     subst (λ changes. IsStillHalfway session changes old left) c.changes.ensures (still_halfway old left session (map change_of c.changes.result.now) c.in_ok-settled.field-0 c.in_ok-settled.ensures stop)
 
-pub returns-in-Ok-clause-taken : goal.returns-in-Ok-clause-taken
-returns-in-Ok-clause-taken g c honest = record {
-  done = search rules;
-  stopped = tt;
-  kept = c.in-Ok.ensures.kept honest;
-  remains = λ durable left may. still_so g (goal.at.returns-in-Ok-clause-taken g c).After-write_down left (c.write_down.ensures.written.remains honest durable left may);
-  memory = search rules;
-  possible = λ all. c.write_down.ensures.possible honest (subst (λ changes. IsTrue (are_applicable (g.S.Store.contents c.args.store.now).files changes)) (sym c.changes.ensures) all);
-}
-
-pub returns-in-Err-clause-taken : goal.returns-in-Err-clause-taken
-returns-in-Err-clause-taken g c honest = record {
-  done = tt;
-  stopped = still_so g (goal.at.returns-in-Err-clause-taken g c).After-write_down _ (c.in-Err.ensures.written.stopped honest);
-  kept = tt;
-  remains = λ durable left may. still_so g (goal.at.returns-in-Err-clause-taken g c).After-write_down left (c.write_down.ensures.written.remains honest durable left may);
-  memory = search rules;
-  possible = λ all. c.write_down.ensures.possible honest (subst (λ changes. IsTrue (are_applicable (g.S.Store.contents c.args.store.now).files changes)) (sym c.changes.ensures) all);
-}
+pub returns-in_err-settled-clause-taken : goal.returns-in_err-settled-clause-taken
+returns-in_err-settled-clause-taken g c honest =
+    let start = g.S.Store.contents c.args.store.now in
+    record {
+      done = search rules;
+      stopped = any_err c.from_residual.result (IsStillHalfway (session_of_kept (session_before c.args.halfway)) (way_left c.args.halfway) start start) (inl (0, omega arith, refl));
+      remains = λ durable left may. inl (0, omega arith, durable left may);
+      refused = search rules;
+      possible = λ _. refl;
+      calls = search rules;
+    }
 
 -- the writing calls of the way back
 way_length : (g : _) (c : After-write_down g) → length c.changes.result.now ≡ length (way_left c.args.halfway)
 way_length g c = sym (length-map c.changes.result.now change_of) ∙ ap length c.changes.ensures
 
-pub returns-in-Ok-clause-calls : goal.returns-in-Ok-clause-calls
-returns-in-Ok-clause-calls g c =
-    let number = way_length g (goal.at.returns-in-Ok-clause-calls g c).After-write_down in
-    record { opened = omega (arith, c.in-Ok.ensures.calls.calls, number); refused = tt }
+pub returns-in-Ok-clause-taken : goal.returns-in-Ok-clause-taken
+returns-in-Ok-clause-taken g c honest =
+    let number = way_length g (goal.at.returns-in-Ok-clause-taken g c).After-write_down in
+    record {
+      done = search rules;
+      stopped = tt;
+      remains = λ durable left may. still_so g (goal.at.returns-in-Ok-clause-taken g c).After-write_down left (c.write_down.ensures.written.remains honest durable left may);
+      refused = tt;
+      possible = λ all. c.write_down.ensures.possible honest (subst (λ changes. IsTrue (are_applicable (g.S.Store.contents c.args.store.now).files changes)) (sym c.changes.ensures) all);
+      calls = record { opened = omega (arith, c.in-Ok.ensures.calls.calls, number); refused = tt };
+    }
 
-pub returns-in-Err-clause-calls : goal.returns-in-Err-clause-calls
-returns-in-Err-clause-calls g c =
-    let number = way_length g (goal.at.returns-in-Err-clause-calls g c).After-write_down in
+pub returns-in-Err-clause-taken : goal.returns-in-Err-clause-taken
+returns-in-Err-clause-taken g c honest =
+    let number = way_length g (goal.at.returns-in-Err-clause-taken g c).After-write_down in
     let most = c.write_down.ensures.calls.at_most in
-    record { opened = tt; refused = record { later = most.later; within = omega (arith, most.within, number) } }
+    record {
+      done = tt;
+      stopped = still_so g (goal.at.returns-in-Err-clause-taken g c).After-write_down _ (c.in-Err.ensures.written.stopped honest);
+      remains = λ durable left may. still_so g (goal.at.returns-in-Err-clause-taken g c).After-write_down left (c.write_down.ensures.written.remains honest durable left may);
+      refused = tt;
+      possible = λ all. c.write_down.ensures.possible honest (subst (λ changes. IsTrue (are_applicable (g.S.Store.contents c.args.store.now).files changes)) (sym c.changes.ensures) all);
+      calls = record { opened = tt; refused = record { later = most.later; within = omega (arith, most.within, number) } };
+    }

@@ -1,11 +1,11 @@
-use Rattle.par2_tool.proofs.Common.{inl, ◌≡◌, ◌+◌, List, length, refl, sym, ap, subst, ◌∙◌, map, arith, le_refl, le-add_right, IsVerify, after_write_down, AreSomeMade, HoldsJournaled, IsStoppedAt, IsWritten, length-map, Verify, LeadsToAfterRequested, session_of_kept, session_after, changes_requested, Contents, action_of, command_of, report_view, MayRefuse, Plan, Two, AreSpelled, change_of, changes_by_kind, after_commit, AreAtMost, calls_requested, calls_to_write, FingerprintsDifferAlong, OpensAsBeforeOrAfter, journals_of, ok_no_err, early_refusal_of}
+use Rattle.par2_tool.proofs.Common.{inl, ◌≡◌, ◌+◌, List, length, refl, sym, ap, subst, ◌∙◌, map, arith, le_refl, le-add_right, take, ℕ, IsVerify, HoldsJournaled, AreAtMost, after_write_down, IsStoppedAt, IsWritten, calls_requested, FingerprintsDifferAlong, OpensAsBeforeOrAfter, calls_before, length-map, Verify, LeadsToAfterRequested, session_of_kept, session_after, changes_requested, Contents, action_of, command_of, report_view, MayRefuse, Plan, Two, AreSpelled, change_of, changes_by_kind, after_commit, journals_of, ok_no_err, early_refusal_of, IfOk, effects}
 use Rattle.par2_spec.specs.Changes as defined
 use Rattle.par2_spec.specs.declared.commands.Command.{Command}
 use Rattle.par2_spec.proofs.AcceptedCommands.{command_leads}
 use Rattle.par2_tool.proofs.Calls.{requested_calls, ready_calls}
 use Rattle.par2_tool.proofs.Openings.{any_err}
 use Rattle.par2_tool.proofs.VerifyRuns.{as_it_was, not_verify, verify_leaves, verify_refused, written_by}
-use Rattle.par2_tool.proofs.Stops.{IsMadeReady, none_made, made_ready, ready_applies, written_holds, written_journal, stopped_opens, requested_in_order}
+use Rattle.par2_tool.proofs.Stops.{IsMadeReady, none_made, made_ready, ready_applies, written_down, stopped_opens, requested_in_order}
 use Rattle.par2_tool.proofs.performing.perform.Goals.{After-write_down}
 use Rattle.par2_tool.proofs.performing.perform.Goals as goal
 
@@ -39,7 +39,7 @@ pub returns-in_err-journals-clause-in_order : goal.returns-in_err-journals-claus
 returns-in_err-journals-clause-in_order g c honest =
     let files = (g.S.Store.contents c.args.store.now).files in
     let requested = changes_requested (session_of_kept c.args.session.now) (command_of c.args.command.now) in
-    any_err c.from_residual.result (AreSomeMade requested files files) (none_made files requested)
+    any_err c.from_residual.result (IfOk requested (λ changes. (n : ℕ) × (files ≡ effects files (take n changes)))) (none_made files requested)
 
 -- ---- the store is left alone
 
@@ -180,10 +180,8 @@ returns-in-Ok-write_down-clause-written g c honest files =
     let new = g.S.Store.contents c.write_down.new.store in
     let there : new ≡ after_write_down start journals (changes_by_kind kind mid) = c.in-Ok-write_down.ensures.written.done honest ∙ ap (after_write_down start journals) (changed_so g at) in
     let after : c.commit.new.self ≡ after_commit kind mid = c.commit.ensures.session ∙ (λ i. after_commit (c.in_ok-journals.ensures.prepared i).kind (c.in_ok-journals.ensures.unchanged i)) in
-    let all : HoldsJournaled (session_of_kept (after_commit kind mid)) (after_write_down start journals (changes_by_kind kind mid)) = (
-      written_holds (action_of given) c.args.session.now c.in-Ok-prepare.prepared mid (made_of g at) journals (spelled_so g at) start files,
-      written_journal (action_of given) c.args.session.now c.in-Ok-prepare.prepared mid (made_of g at) journals (spelled_so g at) start files,
-    ) in
+    let all : HoldsJournaled (session_of_kept (after_commit kind mid)) (after_write_down start journals (changes_by_kind kind mid)) =
+    written_down (action_of given) c.args.session.now c.in-Ok-prepare.prepared mid (made_of g at) journals (spelled_so g at) start files in
     subst (λ (x : Command). IsWritten (command_of x) (session_of_kept c.commit.new.self) start new) (sym c.in-Act.is)
     (written_by given (session_of_kept c.commit.new.self) start new (rw (there, after) all))
 
@@ -196,7 +194,7 @@ returns-in-Err-write_down-clause-in_order g c honest =
     let at = (goal.at.returns-in-Err-write_down-clause-in_order g c).After-write_down in
     let start = g.S.Store.contents c.args.store.now in
     let new = g.S.Store.contents c.write_down.new.store in
-    subst (λ (x : Command). AreSomeMade (changes_requested (session_of_kept c.args.session.now) (command_of x)) start.files new.files) (sym c.in-Act.is)
+    subst (λ (x : Command). IfOk (changes_requested (session_of_kept c.args.session.now) (command_of x)) (λ changes. (n : ℕ) × (new.files ≡ effects start.files (take n changes)))) (sym c.in-Act.is)
     (requested_in_order (action_of c.in-Act.action) c.args.session.now c.in-Ok-prepare.prepared c.prepare.new.self (made_of g at) start c.in_ok-journals.journals new (stop_of g at new (c.in-Err-write_down.ensures.written.stopped honest)))
 
 possible_so : (g : _) (c : After-write_down g) → g.S.Store.honest c.args.store.now → (g.S.Store.contents c.args.store.now).files ≡ c.args.session.now.folder.files → g.S.Store.impossible c.write_down.new.store ≡ g.S.Store.impossible c.args.store.now
@@ -222,10 +220,10 @@ returns-in-Ok-clause-calls g c =
     let made = g.S.Store.writing_calls c.args.store.now in
     subst (λ (x : Command). made ≡ made + calls_requested (session_of_kept c.args.session.now) (command_of x)) (sym c.in-Verify.is) (omega arith)
 
-calls_so : (g : _) (c : After-write_down g) → calls_to_write c.in_ok-journals.journals (length c.changes.result.now) ≡ calls_requested (session_of_kept c.args.session.now) (command_of c.args.command.now)
+calls_so : (g : _) (c : After-write_down g) → calls_before c.in_ok-journals.journals.halfway + (length c.changes.result.now + 1) ≡ calls_requested (session_of_kept c.args.session.now) (command_of c.args.command.now)
 calls_so g c =
     let old = c.args.session.now in
-    ap (calls_to_write c.in_ok-journals.journals) (sym (length-map c.changes.result.now change_of) ∙ ap length (changed_so g c))
+    ap (λ n. calls_before c.in_ok-journals.journals.halfway + (n + 1)) (sym (length-map c.changes.result.now change_of) ∙ ap length (changed_so g c))
     ∙ ready_calls (action_of c.in-Act.action) old c.in-Ok-prepare.prepared c.prepare.new.self (made_of g c) c.in_ok-journals.journals (spelled_so g c)
     ∙ requested_calls c.in-Act.action (session_of_kept old)
     ∙ ap (λ (x : Command). calls_requested (session_of_kept old) (command_of x)) (sym c.in-Act.is)

@@ -1,5 +1,5 @@
-use Rattle.par2_tool.proofs.Common.{◌∙◌, inl, inr, [], refl, sym, subst, map, string_bytes, Contents, command_of, status_of, outcome_of, Answered, Failed, IsUnread, IsPrinted, IsStopped, ContentsAreDurable, same_Some, AskFor, Action, Failure}
-use Rattle.par2_output.specs.PrintedValues.{words_requested}
+use Rattle.par2_tool.proofs.Common.{◌∙◌, inl, inr, [], refl, sym, subst, map, string_bytes, Contents, command_of, status_of, outcome_of, Answered, Failed, IsUnread, IsPrinted, IsStopped, AskFor, ContentsAreDurable, Action, Failure, words_requested}
+use Rattle.std.proofs.lemmas.Option.{same_Some}
 use Rattle.par2_tool.proofs.UnreadWords.{unread_words}
 use Rattle.par2_tool.proofs.running.run.Goals.{After-carry_out}
 use Rattle.par2_tool.proofs.running.run.Goals as goal
@@ -13,46 +13,36 @@ arguments g c = record { requested = c.in-Ok.ensures.command; faultless = c.in-O
 pub returns-in-Err-clause-reported : goal.returns-in-Err-clause-reported
 returns-in-Err-clause-reported g c =
     let words = map string_bytes c.args.words.now in
-    let store = c.args.store.now in
     let reported : IsUnread words c.from.result =
     subst (λ (failure : Failure). IsUnread words failure) (sym c.from.ensures) (unread_words words c.in-Err.fault c.in-Err.ensures.arguments) in record {
       run_result = Failed [] c.from.result;
-      reported = inl (refl, reported, refl {a = g.S.Store.failures store});
+      reported = inr (c.from.result, refl, reported, refl {a = c.args.store.now});
       shown = (c.fail.ensures, refl {a = c.args.out.now});
-      leaves = λ _. inl (reported, refl {a = g.S.Store.contents store});
-      calls = λ _. inl (reported, refl {a = g.S.Store.writing_calls store});
     }
 
 pub returns-in-Ok-carry_out-clause-reported : goal.returns-in-Ok-carry_out-clause-reported
 returns-in-Ok-carry_out-clause-reported g c =
     let requested = arguments g (goal.at.returns-in-Ok-carry_out-clause-reported g c).After-carry_out in
-    let action = command_of c.in-Ok.command in
     let outcome = outcome_of c.in-Ok-carry_out.outcome in
-    let comes = c.in-Ok-carry_out.ensures.comes in
-    let done = comes.leaves in record {
+    let done = c.in-Ok-carry_out.ensures.done in record {
       run_result = Answered done.0 outcome;
-      reported = (action, requested, comes.reported.0, comes.reported.1, comes.reported.2);
+      reported = inl (command_of c.in-Ok.command, requested, done.2);
       shown = (subst (λ bytes. IsPrinted g.O.Write.contents c.args.out.now c.tell.new.out bytes (status_of outcome) c.tell.result) (sym done.1) c.tell.ensures, refl {a = c.args.err.now});
-      leaves = λ honest. (action, requested, done.2 honest);
-      calls = λ honest. (action, requested, comes.calls honest);
     }
 
 pub returns-clause-reported : goal.returns-clause-reported
 returns-clause-reported g c =
     let requested = arguments g (goal.at.returns-clause-reported g c).After-carry_out in
-    let action = command_of c.in-Ok.command in
-    let comes = c.in-Err-carry_out.ensures.comes in record {
+    let action = command_of c.in-Ok.command in record {
       run_result = Failed (words_requested action) c.in-Err-carry_out.failure;
-      reported = inr (action, requested, refl, comes.reported);
+      reported = inl (action, requested, c.in-Err-carry_out.ensures.failed);
       shown = (c.fail-in-Err-carry_out.ensures, refl {a = c.args.out.now});
-      leaves = λ honest. inr (action, requested, comes.leaves honest);
-      calls = λ honest. inr (action, requested, comes.calls honest);
     }
 
 -- ---- what a power cut leaves
 
 pub returns-in-Err-clause-cut : goal.returns-in-Err-clause-cut
-returns-in-Err-clause-cut g c action honest durable requested left may = λ _ _. inl (durable left may)
+returns-in-Err-clause-cut g c action honest durable requested left may = λ _. inl (durable left may)
 
 -- of the command
 command_cut : (g : _) (c : After-carry_out g) (action : Action) → g.S.Store.honest c.args.store.now → ContentsAreDurable g.S.Store c.args.store.now → AskFor (map string_bytes c.args.words.now) action → (left : Contents) → g.S.Store.crash_states c.carry_out.new.store left

@@ -1,10 +1,7 @@
-use Rattle.par2_tool.proofs.Common.{◌∙◌, ◌≡◌, Result, Ok, Err, [], inl, inr, refl, subst, drop, map, string_bytes, Failed, IsUnread}
-use Rattle.std.specs.Prelude.{IfOk, IsOk}
+use Rattle.par2_tool.proofs.Common.{◌∙◌, ◌≡◌, Result, Ok, Err, [], inr, refl, subst, drop, map, string_bytes, Failed, IsUnread, IfOk, IsOk, IfOk-weaker, IfErr-weaker, IsRun, IsShown}
 use Rattle.std.specs.Vec.Iter.{into_iter_items}
-use Rattle.std.proofs.lemmas.Result.{IfOk-weaker, IfErr-weaker}
 use Rattle.par2_spec.specs.declared.Failure.TheVariants as failure
 use Rattle.par2_spec.specs.declared.Fault.TheVariants as fault
-use Rattle.par2_tool.specs.RunResult.{IsNotStarted, IsRun}
 use Rattle.par2_tool.proofs.starting.start.Goals as goal
 
 -- what holds of all arguments holds of those that were given
@@ -28,24 +25,23 @@ returns-in-Ok-clause-arguments g c = IfErr-weaker c.args.given _ _ (λ error non
 
 pub returns-in-Err-clause-run : goal.returns-in-Err-clause-run
 returns-in-Err-clause-run g c =
-    let store = c.args.store.now in
     where_given c.args.given _
     (λ given args.
     let unread : IsUnread (map string_bytes (drop 1 (into_iter_items args))) c.in-Err.failure = inr (c.in-Err.ensures.whole given) in
     record {
       run_result = Failed [] c.in-Err.failure;
-      reported = inl (refl, unread, refl {a = g.S.Store.failures store});
+      reported = inr (c.in-Err.failure, refl, unread, refl {a = c.args.store.now});
       shown = (c.fail.ensures, refl {a = c.args.out.now});
-      leaves = λ _. inl (unread, refl {a = g.S.Store.contents store});
-      calls = λ _. inl (unread, refl {a = g.S.Store.writing_calls store});
     })
 
 pub returns-in-Err-clause-memory : goal.returns-in-Err-clause-memory
 returns-in-Err-clause-memory g c =
     IfErr-weaker c.args.given _ _
     (λ error known is.
-    let same : c.in-Err.failure ≡ failure.Refused fault.Memory = (let all = known is in cc) in
-    subst
-    (IsNotStarted g.E.Write.contents c.args.store.now c.args.store.now c.args.out.now c.args.out.now c.args.err.now c.fail.new.err c.fail.result)
-    same (c.fail.ensures, refl {a = c.args.store.now}, refl {a = c.args.out.now}))
+    let same : c.in-Err.failure ≡ failure.Refused fault.Memory = (let all = known is in cc) in (
+      subst
+          (λ reason. IsShown (Failed [] reason) g.O.Write.contents c.args.out.now c.args.out.now g.E.Write.contents c.args.err.now c.fail.new.err c.fail.result)
+          same (c.fail.ensures, refl {a = c.args.out.now}),
+      refl {a = c.args.store.now},
+    ))
     c.in-Err.ensures.memory

@@ -1,0 +1,206 @@
+-- A whole run: what its words ask for, what it prints and returns, and its effect on the store; and runs on one store.
+use Rattle.std.specs.List.{AllByRecursion}
+use Rattle.std.specs.Prelude.{◌≡◌, ◌⊎◌, ◌<◌, ◌+◌, ℕ, Bool, List, [], ◌∷◌, length, replicate, Option, Some, Ok, Err, true}
+use Rattle.clap.specs.Words.{Text, fault_of, takes}
+use Rattle.par2_spec.specs.Commands.{Action, Do, Repair, Undo}
+use Rattle.par2_spec.specs.Folders.{Folder}
+use Rattle.par2_spec.specs.History as history
+use Rattle.par2_spec.specs.Opening.{Started}
+use Rattle.par2_spec.specs.Output.{Outcome, output_of, error_of, status_of, status_of_failure}
+use Rattle.par2_spec.specs.Plans.{LeadsToAfterRequested}
+use Rattle.par2_spec.specs.Sessions.{Session, changes_requested, session_after}
+use Rattle.par2_spec.specs.Stores.{Contents}
+use Rattle.par2_spec.specs.declared.Failure.{Failure}
+use Rattle.par2_spec.specs.declared.Failure.TheVariants as failure
+use Rattle.par2_spec.specs.declared.Fault.TheVariants as fault
+use Rattle.par2_spec.specs.declared.JournalFault.TheVariants as journal
+use Rattle.par2_arguments.specs.Definition.{par2_app}
+use Rattle.par2_arguments.specs.Meanings.{requested_by}
+use Rattle.par2_disk.specs.declared.view.Store.{Ghosts as StoreOf}
+use Rattle.par2_output.specs.PrintedValues.{words_requested}
+use Rattle.par2_output.specs.PrinterStates.{IsFlushed, PrinterTookAll, TookInVain, PrinterTookPart}
+use Rattle.par2_output.specs.declared.printer.Printer.{Printer}
+use Rattle.par2_tool.specs.Opening.{IsOpening, IsOpened, with_history, AreAtMost, AreCallsToOpen, FingerprintsDifferBack}
+use Rattle.par2_tool.specs.Performing.{IsAnswer, IsWritten, HoldsAfter, FingerprintsDifferAlong, calls_requested}
+
+-- the words request this action, and clap finds no fault with them
+pub record AskFor (words : List Text) (action : Action) : Type 0 where
+  pub requested : requested_by words ≡ Some action
+  pub faultless : fault_of par2_app words ≡ []
+
+-- the words request a repair of this base with these extra files, and a store with these contents opens on the folder
+pub record AskForRepair (words : List (List ℕ)) (contents : Contents) (folder : Folder) (base : List ℕ) (extras : List (List ℕ)) : Type 0 where
+  pub purge : Bool
+  pub requested : AskFor words (Do (Repair base extras purge))
+  pub started : Started
+  pub opens : IsOpening contents (Ok started)
+  pub on : started.session.folder ≡ folder
+
+-- the words are no command line, which clap takes and which requests an action; or memory ran out
+abbrev pub IsUnread : List Text → Failure → Type 0
+IsUnread words reason =
+    ((reason ≡ failure.Arguments) × (takes par2_app words ≡ true → (action : Action) → requested_by words ≡ Some action → ⊥)) ⊎ (reason ≡ failure.Refused fault.Memory)
+
+-- the store was opened, and the action had this outcome on the session that it opens as, and its effect on the store
+pub record IsDone (action : Action) (old new : Contents) (dropped : Bool) (outcome : Outcome) : Type 0 where
+  pub session : Session
+  -- the contents after the opening
+  pub between : Contents
+  pub opened : IsOpened old between (record { session = session; dropped = dropped })
+  pub answer : IsAnswer session action outcome
+  pub after : Session
+  pub accepted : session_after session action ≡ Ok after
+  -- the changes of a command apply in order and lead to its folder
+  pub leads : LeadsToAfterRequested session.folder action
+  pub written : IsWritten action after between new
+
+-- its writing calls: the opening's, and the action's on the session that the store opens as
+pub record AreCallsToRun (action : Action) (contents : Contents) (calls : ℕ) : Type 0 where
+  pub opening : ℕ
+  pub opens_by : AreCallsToOpen contents opening
+  pub started : Started
+  pub opens : IsOpening contents (Ok started)
+  pub sum : calls ≡ opening + calls_requested started.session action
+
+-- the store was opened so, and the action is refused on this session
+abbrev pub IsRefusedFor : Action → Contents → Contents → history.Refusal → Started → Type 0
+IsRefusedFor action old new refusal started = IsOpened old new started × (changes_requested started.session action ≡ Err refusal)
+
+-- the action is an undo or a redo
+abbrev pub IsBack : Action → Type 0
+IsBack (Do command) = ⊥
+IsBack action = Unit {0}
+
+-- different folders that a run of the action passes through, while it takes back or acts, have different fingerprints
+pub record FingerprintsDifferInRun (action : Action) (contents : Contents) : Type 0 where
+  pub back : FingerprintsDifferBack contents
+  pub along : (started : Started) → IsOpening contents (Ok started) → FingerprintsDifferAlong started.session action
+
+-- a stopped run: if different folders on the way have different fingerprints, the store is as it was, or opens as the
+-- session that it opened as, or holds the session after the action
+abbrev pub IsStopped : Action → Contents → Contents → Type 0
+IsStopped action old new =
+    FingerprintsDifferInRun action old
+    → (new ≡ old) ⊎ ((started : Started) × IsOpening old (Ok started)
+    × (IsOpening new (Ok started) ⊎ (IsOpening new (Ok (with_history started.session)) ⊎ HoldsAfter started.session action new)))
+
+-- it is refused because memory ran out or for the cause that par2_spec names, or the store failed. FolderChanged: a
+-- command was left halfway in another folder, or an undo or redo is requested although the history was dropped
+abbrev pub IsFailed : Action → Contents → Contents → Failure → Type 0
+IsFailed action old new (failure.Refused reason) =
+    ((reason ≡ fault.Memory) × ((new ≡ old) ⊎ ((started : Started) × IsOpened old new started)))
+    ⊎ ((started : Started) × IsRefusedFor action old new (history.Refused reason) started)
+IsFailed action old new failure.NothingToUndo = (session : Session) × IsRefusedFor action old new history.NothingToUndo (with_history session)
+IsFailed action old new failure.NothingToRedo = (session : Session) × IsRefusedFor action old new history.NothingToRedo (with_history session)
+IsFailed action old new failure.Store = IsStopped action old new
+IsFailed action old new failure.Arguments = ⊥
+IsFailed action old new failure.JournalInvalid = IsOpening old (Err journal.JournalInvalid) × (new ≡ old)
+IsFailed action old new failure.FolderChanged =
+    (IsOpening old (Err (journal.FolderChanged true)) × (new ≡ old))
+    ⊎ (IsBack action × (started : Started) × IsOpened old new started × (started.dropped ≡ true))
+
+-- its writing calls: the opening's, and if the store failed, at most those of an accepted run
+abbrev pub CountsFailedRun : Action → Contents → ℕ → ℕ → Failure → Type 0
+CountsFailedRun action contents before after failure.Store =
+    (calls : ℕ) × (AreCallsToOpen contents calls ⊎ AreCallsToRun action contents calls) × AreAtMost calls before after
+CountsFailedRun action contents before after reason = (calls : ℕ) × AreCallsToOpen contents calls × (after ≡ before + calls)
+
+-- ---- the result of a run
+
+-- an outcome, and whether the history was dropped; or a failure, with the words that its line may name
+pub data RunResult : Type 0 where
+  Answered : Bool → Outcome → RunResult
+  Failed : List (List ℕ) → Failure → RunResult
+
+-- why an action fails, whatever the store does: memory ran out; the cause that par2_spec names, on some session; the
+-- journal that was read; or the store failed, and only that is counted
+abbrev pub IsCause : Action → ℕ → ℕ → Failure → Type 0
+IsCause action before after (failure.Refused reason) =
+    ((reason ≡ fault.Memory) ⊎ ((session : Session) × (changes_requested session action ≡ Err (history.Refused reason)))) × (after ≡ before)
+IsCause action before after failure.NothingToUndo =
+    ((session : Session) × (changes_requested session action ≡ Err history.NothingToUndo)) × (after ≡ before)
+IsCause action before after failure.NothingToRedo =
+    ((session : Session) × (changes_requested session action ≡ Err history.NothingToRedo)) × (after ≡ before)
+IsCause action before after failure.Store = before < after
+IsCause action before after failure.Arguments = ⊥
+IsCause action before after reason = after ≡ before
+
+-- the result of an action on a store: the outcome, on some session, or the cause, whatever the store does; and, on an
+-- honest store, its effect and the number of calls. Once the store has failed, Store is the only result
+abbrev pub IsResult : {S : Type 0} → StoreOf S → Action → S → S → RunResult → Type 0
+IsResult store action old new (Answered dropped outcome) =
+    (store.failures new ≡ store.failures old) × ((session : Session) × IsAnswer session action outcome)
+    × (store.honest old → IsDone action (store.contents old) (store.contents new) dropped outcome
+    × (calls : ℕ) × AreCallsToRun action (store.contents old) calls × (store.writing_calls new ≡ store.writing_calls old + calls))
+IsResult store action old new (Failed spoken reason) =
+    (spoken ≡ words_requested action) × IsCause action (store.failures old) (store.failures new) reason
+    × (store.honest old → IsFailed action (store.contents old) (store.contents new) reason
+    × CountsFailedRun action (store.contents old) (store.writing_calls old) (store.writing_calls new) reason)
+
+-- the result of a run: that of the requested action; or why the words aren't read, and nothing is done to the store
+abbrev pub IsRunResult : {S : Type 0} → StoreOf S → List Text → S → S → RunResult → Type 0
+IsRunResult store words old new result =
+    ((action : Action) × AskFor words action × IsResult store action old new result)
+    ⊎ ((reason : Failure) × (result ≡ Failed [] reason) × IsUnread words reason × (new ≡ old))
+
+-- the bytes were written and flushed, and the status is the command's own; or the status is 6 because the writer
+-- failed, which is counted: it took a proper prefix of the bytes, or all of them and couldn't be flushed
+abbrev pub IsPrinted : {W : Type 0} → (W → Option (List ℕ)) → Printer W → Printer W → List ℕ → ℕ → ℕ → Type 0
+IsPrinted held old new bytes own status =
+    (PrinterTookAll held old new bytes × IsFlushed new × (status ≡ own))
+    ⊎ ((PrinterTookPart held old new bytes ⊎ TookInVain held old new bytes) × (status ≡ 6))
+
+-- an outcome is printed on the output, a failure on the error writer; the other printer is as it was
+abbrev pub IsShown : {O E : Type 0} → RunResult → (O → Option (List ℕ)) → Printer O → Printer O → (E → Option (List ℕ)) → Printer E → Printer E → ℕ → Type 0
+IsShown (Answered dropped outcome) held out out_after held_by_err err err_after status =
+    IsPrinted held out out_after (output_of dropped outcome) (status_of outcome) status × (err_after ≡ err)
+IsShown (Failed spoken reason) held out out_after held_by_err err err_after status =
+    IsPrinted held_by_err err err_after (error_of spoken reason) (status_of_failure reason) status × (out_after ≡ out)
+
+-- a run with these words has a result, and the two writers show it
+pub record IsRun {S O E : Type 0} (store : StoreOf S) (held : O → Option (List ℕ)) (held_by_err : E → Option (List ℕ)) (words : List Text) (old new : S) (out out_after : Printer O) (err err_after : Printer E) (status : ℕ) : Type 0 where
+  pub run_result : RunResult
+  pub reported : IsRunResult store words old new run_result
+  pub shown : IsShown run_result held out out_after held_by_err err err_after status
+
+-- ---- runs on one store, each of which opens it again
+
+-- a run takes effect: the action is accepted, or it is stopped and the store holds the session after it
+abbrev pub TakesEffect : Action → Contents → Contents → Type 0
+TakesEffect action old new =
+    ((dropped : Bool) × (outcome : Outcome) × IsDone action old new dropped outcome)
+    ⊎ ((started : Started) × IsOpening old (Ok started) × HoldsAfter started.session action new)
+
+-- a run has no effect: it does nothing to the store, or leaves one that opens as the same session as before. It is
+-- refused, runs out of memory, or is stopped
+abbrev pub HasNoEffect : Contents → Contents → Type 0
+HasNoEffect old new =
+    (new ≡ old)
+    ⊎ ((started left : Started) × IsOpening old (Ok started) × IsOpening new (Ok left) × (left.session ≡ started.session))
+
+-- runs of the requested actions lead from one contents to the other. The actions in `done` take effect, in order; the
+-- others have none
+pub data Runs : Contents → List Action → List Action → Contents → Type 0 where
+  Ended : {k : Contents} → Runs k [] [] k
+  Effective : {k next end : Contents} {action : Action} {requested done : List Action} → TakesEffect action k next → Runs next requested done end → Runs k (action ∷ requested) (action ∷ done) end
+  Passed : {k next end : Contents} {action : Action} {requested done : List Action} → HasNoEffect k next → Runs next requested done end → Runs k (action ∷ requested) done end
+
+-- the store is one undo away from the folder: creates, repairs and purges led on from it, and all of them but the first
+-- are undone. Runs between them may have been refused, have failed, or have been stopped without effect
+pub record IsOneUndoFrom (folder : Folder) (store : Contents) : Type 0 where
+  -- the first store opens on the folder
+  pub first : Contents
+  pub started : Started
+  pub opens : IsOpening first (Ok started)
+  pub on : started.session.folder ≡ folder
+  -- commands were done
+  pub requested : List Action
+  pub done : List Action
+  pub mid : Contents
+  pub commands : Runs first requested done mid
+  pub changing : AllByRecursion history.IsChanging done
+  -- and all of them but the first are undone
+  pub undone : ℕ
+  pub left : length done ≡ undone + 1
+  pub more : List Action
+  pub undos : Runs mid more (replicate undone Undo) store
