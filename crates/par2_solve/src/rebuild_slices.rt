@@ -9,6 +9,7 @@ ghost use Rattle.par2_solve.specs.Survivors.{exponents_of, lost_from, bytes_or_n
 ghost use Rattle.par2_solve.specs.Rebuilding.{AnotherAlwaysAgrees, AreEnough, CanRebuild, IsNotRepairable, TwoAlwaysAgree};
 
 use crate::encoder::{Encoder, Recovered};
+use crate::exponents::Lost;
 use crate::inverse::{Inversion, bytes_of, exponents_of, invert};
 use crate::products::{fit_known, fit_lists, fit_recovery};
 use crate::room::rows_room;
@@ -128,6 +129,7 @@ pub fn rebuild(alloc: Global, gf: &Gf, survivors: &Survivors) -> Result<Vec<Vec<
     fit_known(&survivors.known);
     fit_recovery(&survivors.recovery);
     let lost = lost_numbers(alloc, &survivors.known)?;
+    let lost = Lost { numbers: &lost };
     let found = invert(alloc, gf, &lost, &survivors.recovery)?;
     Ok(solve(alloc, gf, survivors, &found)?)
 }
