@@ -153,7 +153,7 @@ fn copies(alloc: Global, buffers: &[&[u8]]) -> Result<Vec<Vec<u8>>>
 }
 
 impl<'a> Encoder<'a> {
-    // How many exponents `add_by_coefficients` takes at a time, at least one: as many as fit into memory with their
+    // How many exponents `add_as_sums` takes at a time, at least one: as many as fit into memory with their
     // coefficients and the fewest columns of their sums.
     fn rows_at_once(&self) -> usize
         ensures { 1 ≤ result }
@@ -216,12 +216,7 @@ impl<'a> Encoder<'a> {
 
     // Adds to each output the recovery slice of its exponent, as the sum of products. All slices are read once, some
     // columns of them at a time.
-    fn add_by_coefficients(
-        &self,
-        alloc: Global,
-        targets: &Targets,
-        buffers: &mut [Vec<u8>],
-    ) -> Result<()>
+    fn add_as_sums(&self, alloc: Global, targets: &Targets, buffers: &mut [Vec<u8>]) -> Result<()>
         requires some { 0 < length targets.now.exponents.now }
         requires room { LieIn targets.now.outputs buffers.old }
         ensures { OnOk result (AddsRecovery self.now targets.now buffers.old buffers.new) }
@@ -251,7 +246,7 @@ impl<'a> Encoder<'a> {
             Some(first) => {
                 add_recovery_slices_at(alloc, gf, slices, first, buffers, outputs, room)
             }
-            None => self.add_by_coefficients(alloc, targets, buffers),
+            None => self.add_as_sums(alloc, targets, buffers),
         }
     }
 

@@ -79,29 +79,26 @@ fn hole_at(window: &Window, places: &[u32], x: u32) -> usize
 
 // The origin of the syndrome of the number at place `x`, which is `x` above the first exponent: the exponent with this
 // number, or else a hole. `places` are those of all holes.
-fn origin_at(window: &Window, places: &[u32], x: usize) -> Origin
+fn origin_at(window: &Window, places: &[u32], x: u32) -> Origin
     requires within { x ≤ span window.now.exponents.now }
     requires places { places.now ≡ holes window.now.exponents.now }
     ensures { IsOriginAt window.now.exponents.now x result }
 {
     let exponents = window.exponents;
-    let first = exponents[0];
-    let x = x as u32;
-    match exponents.binary_search(&(first + x)) {
+    match exponents.binary_search(&(exponents[0] + x)) {
         Ok(j) => Origin::Exponent(j),
         Err(_) => Origin::Hole(hole_at(window, places, x)),
     }
 }
 
-// The origins of the syndromes of the window, in order. `count` is how many numbers it has, and `places` are those of
-// all holes.
-fn origins(alloc: Global, window: &Window, places: &[u32], count: usize) -> Result<Vec<Origin>>
-    requires places { places.now ≡ holes window.now.exponents.now }
-    requires window { count ≡ span window.now.exponents.now + 1 }
-    ensures { IfOk result (λ origins. AreOrigins window.now.exponents.now count origins.items) }
+// The origins of the syndromes of the window, in order. `places` are those of all holes.
+fn origins(alloc: Global, window: &Window, places: &[u32]) -> Result<Vec<Origin>>
+    requires { places.now ≡ holes window.now.exponents.now }
+    ensures { IfOk result (λ origins. AreOrigins
+        window.now.exponents.now (span window.now.exponents.now + 1) origins.items) }
 {
-    let mut origins = Vec::with_capacity(alloc, count)?;
-    for x in 0..count {
+    let mut origins = Vec::with_capacity(alloc, window.exponents.len() + places.len())?;
+    for x in 0..=window.span() {
         origins.push(origin_at(window, places, x))?;
     }
     Ok(origins)
@@ -128,7 +125,8 @@ pub(crate) fn inverse_over_holes<'a>(
     exponents: &[u32],
 ) -> Result<Option<Inverse<'a>>>
     requires { IsStrictlyIncreasing exponents.now }
-    ensures { IfOk result (λ found. IfSome found (InvertsFirst lost.now.numbers.now exponents.now)) }
+    ensures { IfOk result (λ found.
+        IfSome found (InvertsFirst lost.now.numbers.now exponents.now)) }
 {
     let Some(first) = front(exponents, lost.numbers.len()) else {
         return Ok(None);
@@ -146,7 +144,7 @@ pub(crate) fn inverse_over_holes<'a>(
     let filling = Filling {
         equations: Numerators::new(alloc, gf, falling(alloc, &p, window)?, count)?,
         holes: inverse,
-        origins: origins(alloc, &first, &places, window)?,
+        origins: origins(alloc, &first, &places)?,
         locator: run_locator(alloc, gf, lost, first.exponents[0])?,
     };
     Ok(Some(Inverse::Filled(filling)))

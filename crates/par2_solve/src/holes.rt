@@ -48,8 +48,8 @@ pub(crate) fn front(exponents: &[u32], count: usize) -> Option<Window>
 }
 
 impl<'a> Window<'a> {
-    // The difference between the last exponent and the first: the place of the last one in the window.
-    fn span(&self) -> u32
+    /// The difference between the last exponent and the first: the place of the last one in the window.
+    pub(crate) fn span(&self) -> u32
         ensures { result ≡ span self.now.exponents.now }
     {
         self.exponents[self.exponents.len() - 1] - self.exponents[0]

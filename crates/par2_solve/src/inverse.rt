@@ -202,7 +202,8 @@ fn inverse_at_front<'a>(
     exponents: &[u32],
 ) -> Result<Option<Inverse<'a>>>
     requires { IsStrictlyIncreasing exponents.now }
-    ensures { IfOk result (λ found. IfSome found (InvertsFirst lost.now.numbers.now exponents.now)) }
+    ensures { IfOk result (λ found.
+        IfSome found (InvertsFirst lost.now.numbers.now exponents.now)) }
 {
     if let Some(first) = run_at_front(exponents, lost.numbers.len()) {
         return Ok(Some(inverse_for_run(alloc, gf, lost, first)?));

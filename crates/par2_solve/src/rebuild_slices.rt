@@ -91,12 +91,9 @@ fn solve(alloc: Global, gf: &Gf, survivors: &Survivors, found: &Inversion) -> Re
     let exponents = exponents_of(alloc, &found.kept)?;
     let recovery = bytes_of(alloc, &found.kept)?;
     let slices = slices_or_none(alloc, &survivors.known)?;
-    let room = rows_room(&slices, recovery.len());
-    let encoder = Encoder {
-        gf,
-        slices: &slices,
-        room,
-    };
+    let slices = slices.as_slice();
+    let room = rows_room(slices, recovery.len());
+    let encoder = Encoder { gf, slices, room };
     let kept = Recovered {
         exponents: &exponents,
         slices: &recovery,

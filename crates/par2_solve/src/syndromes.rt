@@ -69,11 +69,8 @@ fn solved_block(
     let Encoder { gf, slices, room } = *encoder;
     let slices = windows(alloc, slices, from, count)?;
     let recovery = windows(alloc, kept.slices, from, count)?;
-    let block = Encoder {
-        gf,
-        slices: &slices,
-        room,
-    };
+    let slices = slices.as_slice();
+    let block = Encoder { gf, slices, room };
     let part = Recovered {
         exponents: kept.exponents,
         slices: &recovery,

@@ -1,5 +1,5 @@
 use Rattle.par2_solve.proofs.Common.{◌≡◌, ◌+◌, ◌≤◌, ◌∙◌, ℕ, List, ap, ap₂, arith, rules, subst, length, length-take, lists_of, IsRepairable}
-use Rattle.par2_solve.specs.Filling.{falling, AreOrigins}
+use Rattle.par2_solve.specs.Filling.{falling}
 use Rattle.par2_solve.specs.Holes.{AreHoleInverse, holes, locator, span}
 use Rattle.par2_solve.specs.Solvers.{Inverts}
 use Rattle.par2_solve.specs.declared.filling.Filling.{Filling}
@@ -31,8 +31,7 @@ returns c =
     let filling : Filling = record { equations = c.in_ok-new.field-0; holes = c.in-Some-2.inverse; origins = c.in_ok-origins.field-0; locator = c.in_ok-run_locator.field-0 } in
     let window : length es + n ≡ span es + 1 = omega (arith, fit) in
     let sequence : c.in_ok-new.field-0.sequence.items ≡ falling (locator ks) (span es + 1) = c.in_ok-new.ensures.sequence ∙ c.in_ok-falling.ensures ∙ ap₂ falling p window in
-    let origins : AreOrigins es (span es + 1) c.in_ok-origins.field-0.items = subst (λ m. AreOrigins es m c.in_ok-origins.field-0.items) window c.in_ok-origins.ensures in
-    let both = inverts_over_holes ks es n filling (slices_of c.args.lost.now) c.in-Some.first.rise c.in-Some.first.some c.in-Some.ensures.count fit c.in_ok-new.ensures.count sequence inverse origins c.in_ok-run_locator.ensures in
+    let both = inverts_over_holes ks es n filling (slices_of c.args.lost.now) c.in-Some.first.rise c.in-Some.first.some c.in-Some.ensures.count fit c.in_ok-new.ensures.count sequence inverse c.in_ok-origins.ensures c.in_ok-run_locator.ensures in
     record {
       within = (let least = length-take (length ks) c.args.exponents.now in let long = ap (λ (xs : List ℕ). length xs) c.in-Some.ensures.first in let count = c.in-Some.ensures.count in omega (arith, least, long, count));
       inverts = subst (λ xs. Inverts ks xs (Filled filling)) c.in-Some.ensures.first both.0;

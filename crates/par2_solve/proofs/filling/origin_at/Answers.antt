@@ -6,16 +6,8 @@ use Rattle.par2_solve.proofs.Runs.{rises_between, rises_to_the_end}
 use Rattle.par2_solve.proofs.Windows.{searched_hole, hole_contained}
 use Rattle.par2_solve.proofs.filling.origin_at.Goals as goal
 
-pub overflow_cast-x : goal.overflow_cast-x
-overflow_cast-x c =
-    let es = c.args.window.now.exponents.now in
-    let order = rises_to_the_end es c.args.window.now.rise c.args.window.now.some in
-    let last : get_or es (length es - 1) 0 < 2 ^ 32 = Fits-lt-pow (c.type_inv.exponents (length es - 1)) in
-    let small : c.args.x < 2 ^ 32 = omega (arith, order, last, c.requires.within) in
-    search (rules, small)
-
-pub overflow_add-first : goal.overflow_add-first
-overflow_add-first c =
+pub overflow_add-exponents : goal.overflow_add-exponents
+overflow_add-exponents c =
     let es = c.args.window.now.exponents.now in
     let order = rises_to_the_end es c.args.window.now.rise c.args.window.now.some in
     let last : get_or es (length es - 1) 0 < 2 ^ 32 = Fits-lt-pow (c.type_inv.exponents (length es - 1)) in

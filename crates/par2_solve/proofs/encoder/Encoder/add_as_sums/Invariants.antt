@@ -1,6 +1,6 @@
 use Rattle.par2_solve.proofs.Common.{◌-◌, ◌≤◌, length, lists_of, products, buffers_of}
 use Rattle.par2_solve.proofs.AdditionLaws.{ColumnsAdded}
-use Rattle.par2_solve.proofs.encoder.Encoder.add_by_coefficients.Given as goal
+use Rattle.par2_solve.proofs.encoder.Encoder.add_as_sums.Given as goal
 
 abbrev pub invariant-loop-from : goal.invariant-loop-from
 invariant-loop-from l = record {
