@@ -12,6 +12,8 @@ use Rattle.par2_solve.specs.Rebuilding.{AreRebuilt, known_among}
 use Rattle.par2_solve.specs.Solvers.{Inverts}
 use Rattle.par2_solve.specs.Survivors.{exponents_of, recovered_of, with_lost_slices, IsTrueFault}
 use Rattle.par2_solve.specs.BufferContents.{buffers_of}
+use Rattle.par2_solve.specs.declared.encoder.Encoder.{Encoder}
+use Rattle.par2_solve.specs.declared.encoder.Targets.{Targets}
 use Rattle.par2_solve.specs.declared.inverse.Inversion.{Inversion}
 use Rattle.par2_solve.specs.declared.rebuild_slices.RebuildFault.{RebuildFault}
 use Rattle.par2_solve.specs.declared.rebuild_slices.Survivors.{Survivors}
@@ -45,9 +47,9 @@ abbrev pub LieIn : Places → List (Vec ℕ Global) → Type 0
 LieIn outputs buffers = LieWithin outputs.words outputs.places.now (lists_of buffers)
 
 -- to each output, the recovery slice of its exponent is added
-abbrev pub AddsRecovery : Places → List (Bor (List ℕ)) → List ℕ → List (Vec ℕ Global) → List (Vec ℕ Global) → Type 0
-AddsRecovery outputs slices exponents old new =
-    AddsAt outputs.places.now outputs.words (λ t p. recovered (buffers_of slices) (slice_index exponents t) p) (lists_of old) (lists_of new)
+abbrev pub AddsRecovery : Encoder → Targets → List (Vec ℕ Global) → List (Vec ℕ Global) → Type 0
+AddsRecovery encoder targets old new =
+    AddsAt targets.outputs.places.now targets.outputs.words (λ t p. recovered (buffers_of encoder.slices.now) (slice_index targets.exponents.now t) p) (lists_of old) (lists_of new)
 
 -- ---- kept exponents
 

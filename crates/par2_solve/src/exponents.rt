@@ -16,6 +16,15 @@ use par2_matrix::{Offer, System};
 use par2_spec::Result;
 use std::alloc::Global;
 
+/// The numbers of the lost slices, in increasing order. They are numbers of a PAR2 set, so each has a constant.
+#[derive(Clone, Copy)]
+pub(crate) struct Lost<'a> {
+    pub(crate) numbers: &'a [u32],
+    ghost count: { length numbers.now ≤ 32768 },
+    ghost below: { (i : ℕ) → slice_index numbers.now i < 32768 },
+    ghost rise: { IsStrictlyIncreasing numbers.now },
+}
+
 // The coefficient of input slice `k` in the recovery slice of exponent `e`: the slice's constant to the power `e`.
 #[tactic(auto, unfolding(par2_spec::specs::Field::coefficient))]
 fn coefficient(gf: &Gf, k: u32, e: u32) -> u16

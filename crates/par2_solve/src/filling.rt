@@ -8,7 +8,6 @@
 ghost use Rattle.std.specs.Prelude.{◌≡◌, ◌+◌, ◌%◌, ◌<◌, ◌≤◌, [], length, map, slice_index, take, IfOk, IfSome, IsTrue};
 ghost use Rattle.std.specs.List.{Contains};
 ghost use Rattle.std.specs.List.Sorted.{IsStrictlyIncreasing};
-ghost use Rattle.par2_spec.specs.Runs.{AreSlices};
 ghost use Rattle.par2_spec.specs.Sums.{lists_of};
 ghost use Rattle.par2_solve.specs.Filling.{AreOrigins, IsFilled, IsOriginAt, falling, filled_rows, from_last, from_origin, hole_rows, known_rows};
 ghost use Rattle.par2_solve.specs.Holes.{holes, span};
@@ -16,7 +15,8 @@ ghost use Rattle.par2_solve.specs.Solvers.{InvertsFirst};
 ghost use Rattle.par2_solve.specs.Syndromes.{AreProducts};
 ghost use Rattle.par2_solve.specs.BufferContents.{buffers_of};
 
-use crate::holes::{count_equations, front, hole_inverse, holes, locator};
+use crate::exponents::Lost;
+use crate::holes::{Window, front, hole_inverse, locator};
 use crate::products::{buffer_at, buffers_fit, products_of, source_at};
 use crate::recovery::blank;
 use crate::run_locator::run_locator;
@@ -69,41 +69,37 @@ fn falling(alloc: Global, p: &[u16], count: usize) -> Result<Vec<u16>>
 
 // The index, among all holes of the window, of the hole at place `x`, which is `x` above the first exponent. `places`
 // are those of all holes.
-fn hole_at(exponents: &[u32], places: &[u32], x: u32) -> usize
-    requires places { places.now ≡ holes exponents.now }
+fn hole_at(window: &Window, places: &[u32], x: u32) -> usize
+    requires places { places.now ≡ holes window.now.exponents.now }
     requires hole { Contains places.now x }
-    ensures { IsOriginAt exponents.now x (Origin.Hole result) }
+    ensures { IsOriginAt window.now.exponents.now x (Origin.Hole result) }
 {
     places.binary_search(&x).unwrap()
 }
 
 // The origin of the syndrome of the number at place `x`, which is `x` above the first exponent: the exponent with this
 // number, or else a hole. `places` are those of all holes.
-fn origin_at(exponents: &[u32], places: &[u32], x: u32) -> Origin
-    requires some { 0 < length exponents.now }
-    requires rise { IsStrictlyIncreasing exponents.now }
-    requires within { x ≤ span exponents.now }
-    requires places { places.now ≡ holes exponents.now }
-    ensures { IsOriginAt exponents.now x result }
+fn origin_at(window: &Window, places: &[u32], x: u32) -> Origin
+    requires within { x ≤ span window.now.exponents.now }
+    requires places { places.now ≡ holes window.now.exponents.now }
+    ensures { IsOriginAt window.now.exponents.now x result }
 {
+    let exponents = window.exponents;
     match exponents.binary_search(&(exponents[0] + x)) {
         Ok(j) => Origin::Exponent(j),
-        Err(_) => Origin::Hole(hole_at(exponents, places, x)),
+        Err(_) => Origin::Hole(hole_at(window, places, x)),
     }
 }
 
-// The origins of the syndromes of the window, in order. `window` is how many numbers it has, and `places` are those of
-// all holes.
-fn origins(alloc: Global, exponents: &[u32], places: &[u32], window: usize) -> Result<Vec<Origin>>
-    requires some { 0 < length exponents.now }
-    requires rise { IsStrictlyIncreasing exponents.now }
-    requires places { places.now ≡ holes exponents.now }
-    requires window { window ≡ span exponents.now + 1 }
-    ensures { IfOk result (λ origins. AreOrigins exponents.now window origins.items) }
+// The origins of the syndromes of the window, in order. `places` are those of all holes.
+fn origins(alloc: Global, window: &Window, places: &[u32]) -> Result<Vec<Origin>>
+    requires { places.now ≡ holes window.now.exponents.now }
+    ensures { IfOk result (λ origins. AreOrigins
+        window.now.exponents.now (span window.now.exponents.now + 1) origins.items) }
 {
-    let mut origins = Vec::with_capacity(alloc, window)?;
-    for x in 0..window {
-        origins.push(origin_at(exponents, places, x as u32))?;
+    let mut origins = Vec::with_capacity(alloc, window.exponents.len() + places.len())?;
+    for x in 0..=window.span() {
+        origins.push(origin_at(window, places, x))?;
     }
     Ok(origins)
 }
@@ -125,32 +121,31 @@ fn has_points(holes: usize, lost: usize) -> bool
 pub(crate) fn inverse_over_holes<'a>(
     alloc: Global,
     gf: &'a Gf,
-    lost: &[u32],
+    lost: &Lost,
     exponents: &[u32],
 ) -> Result<Option<Inverse<'a>>>
-    requires slices { AreSlices lost.now }
-    requires count { length lost.now ≤ 32768 }
-    requires exponents { IsStrictlyIncreasing exponents.now }
-    ensures { IfOk result (λ found. IfSome found (InvertsFirst lost.now exponents.now)) }
+    requires { IsStrictlyIncreasing exponents.now }
+    ensures { IfOk result (λ found.
+        IfSome found (InvertsFirst lost.now.numbers.now exponents.now)) }
 {
-    let Some(first) = front(exponents, lost.len()) else {
+    let Some(first) = front(exponents, lost.numbers.len()) else {
         return Ok(None);
     };
-    let count = count_equations(first);
-    if !has_points(count, lost.len()) {
+    let count = first.count_equations();
+    if !has_points(count, lost.numbers.len()) {
         return Ok(None);
     }
-    let places = holes(alloc, first)?;
-    let p = locator(alloc, gf, lost)?;
+    let places = first.holes(alloc)?;
+    let p = locator(alloc, gf, lost.numbers)?;
     let Some(inverse) = hole_inverse(alloc, gf, &p, &places, count)? else {
         return Ok(None);
     };
-    let window = first.len() + count;
+    let window = first.exponents.len() + count;
     let filling = Filling {
         equations: Numerators::new(alloc, gf, falling(alloc, &p, window)?, count)?,
         holes: inverse,
-        origins: origins(alloc, first, &places, window)?,
-        locator: run_locator(alloc, gf, lost, first[0])?,
+        origins: origins(alloc, &first, &places)?,
+        locator: run_locator(alloc, gf, lost, first.exponents[0])?,
     };
     Ok(Some(Inverse::Filled(filling)))
 }

@@ -20,60 +20,71 @@ use par2_matrix::{Offer, System};
 use par2_spec::Result;
 use std::alloc::Global;
 
+/// Increasing exponents, at least one. The numbers from the first one to the last are their window.
+#[derive(Clone, Copy)]
+pub(crate) struct Window<'a> {
+    pub(crate) exponents: &'a [u32],
+    ghost some: { 0 < length exponents.now },
+    ghost rise: { IsStrictlyIncreasing exponents.now },
+}
+
 /// The first `count` exponents, if there are at most as many holes between them. With more holes, their equations would
 /// outnumber those of the exponents, and elimination would be as fast.
-pub(crate) fn front(exponents: &[u32], count: usize) -> Option<&[u32]>
+pub(crate) fn front(exponents: &[u32], count: usize) -> Option<Window>
     requires { IsStrictlyIncreasing exponents.now }
-    // It returns the first `count` exponents, of which there is at least one.
-    ensures first { IfSome result (λ first. first.now ≡ take count exponents.now) }
-    ensures some { IfSome result (λ first. 0 < length first.now) }
-    ensures count { IfSome result (λ first. length first.now ≡ count) }
-    // They rise, and at most `count` numbers are missing between them.
-    ensures rise { IfSome result (λ first. IsStrictlyIncreasing first.now) }
-    ensures near { IfSome result (λ first. span first.now < 2 * count) }
+    // It returns the first `count` exponents, and at most `count` numbers are missing between them.
+    ensures first { IfSome result (λ first. first.exponents.now ≡ take count exponents.now) }
+    ensures count { IfSome result (λ first. length first.exponents.now ≡ count) }
+    ensures near { IfSome result (λ first. span first.exponents.now < 2 * count) }
 {
     if count == 0 || exponents.len() < count {
         return None;
     }
-    let first = &exponents[..count];
-    if !are_close(first, count.saturating_mul(2)) {
+    let exponents = &exponents[..count];
+    if !are_close(exponents, count.saturating_mul(2)) {
         return None;
     }
-    Some(first)
+    Some(Window { exponents })
 }
 
-// The difference between the last exponent and the first: the place of the last one in the window.
-fn span(exponents: &[u32]) -> u32
-    requires some { 0 < length exponents.now }
-    requires rise { IsStrictlyIncreasing exponents.now }
-    ensures { result ≡ span exponents.now }
-{
-    exponents[exponents.len() - 1] - exponents[0]
-}
-
-// Whether no exponent is at this place of the window. The exponents rise, and the first one is at place 0.
-fn is_hole(exponents: &[u32], x: u32) -> bool
-    requires some { 0 < length exponents.now }
-    requires rise { IsStrictlyIncreasing exponents.now }
-    requires within { x ≤ span exponents.now }
-    ensures { result ≡ is_hole exponents.now x }
-{
-    exponents.binary_search(&(exponents[0] + x)).is_err()
-}
-
-/// The places of the holes between the exponents, in increasing order: for each hole, how far it is above the first exponent.
-pub(crate) fn holes(alloc: Global, exponents: &[u32]) -> Result<Vec<u32>>
-    requires some { 0 < length exponents.now }
-    requires rise { IsStrictlyIncreasing exponents.now }
-    ensures { IfOk result (λ places. places.items ≡ holes exponents.now) }
-{
-    let mut places = Vec::new(alloc);
-    for x in 0..span(exponents) {
-        if is_hole(exponents, x) {
-            places.push(x)?;
-        }
+impl<'a> Window<'a> {
+    /// The difference between the last exponent and the first: the place of the last one in the window.
+    pub(crate) fn span(&self) -> u32
+        ensures { result ≡ span self.now.exponents.now }
+    {
+        self.exponents[self.exponents.len() - 1] - self.exponents[0]
     }
-    Ok(places)
+
+    // Whether no exponent is at this place of the window. The first one is at place 0.
+    fn is_hole(&self, x: u32) -> bool
+        requires { x ≤ span self.now.exponents.now }
+        ensures { result ≡ is_hole self.now.exponents.now x }
+    {
+        let exponents = self.exponents;
+        exponents.binary_search(&(exponents[0] + x)).is_err()
+    }
+
+    /// The places of the holes between the exponents, in increasing order: for each hole, how far it is above the first
+    /// exponent.
+    pub(crate) fn holes(&self, alloc: Global) -> Result<Vec<u32>>
+        ensures { IfOk result (λ places. places.items ≡ holes self.now.exponents.now) }
+    {
+        let mut places = Vec::new(alloc);
+        for x in 0..self.span() {
+            if self.is_hole(x) {
+                places.push(x)?;
+            }
+        }
+        Ok(places)
+    }
+
+    /// The number of equations of the holes in the window, which is the number of holes.
+    pub(crate) fn count_equations(&self) -> usize
+        ensures { result + length self.now.exponents.now ≡ span self.now.exponents.now + 1 }
+    {
+        let numbers = self.span() as usize + 1;
+        numbers - self.exponents.len()
+    }
 }
 
 // The coefficient of `z ^ x` in a polynomial times `z ^ u`. `p` has the polynomial's coefficients from `z ^ 0` on.
@@ -132,16 +143,6 @@ pub(crate) fn locator(alloc: Global, gf: &Gf, lost: &[u32]) -> Result<Vec<u16>>
     with_roots(alloc, gf, &constants)
 }
 
-/// The number of equations of the holes in the window, which is the number of holes.
-pub(crate) fn count_equations(exponents: &[u32]) -> usize
-    requires some { 0 < length exponents.now }
-    requires rise { IsStrictlyIncreasing exponents.now }
-    ensures { result + length exponents.now ≡ span exponents.now + 1 }
-{
-    let numbers = span(exponents) as usize + 1;
-    numbers - exponents.len()
-}
-
 // Whether the first `count` equations of the holes at these places are independent and as many as the holes. Then they
 // determine the holes' sums, and the exponents around the holes determine the lost slices.
 fn are_regular(alloc: Global, gf: &Gf, lost: &[u32], places: &[u32], count: usize) -> Result<bool>
@@ -194,6 +195,6 @@ pub(crate) fn determine(alloc: Global, gf: &Gf, lost: &[u32], exponents: &[u32])
     let Some(first) = front(exponents, lost.len()) else {
         return Ok(false);
     };
-    let places = holes(alloc, first)?;
-    are_regular(alloc, gf, lost, &places, count_equations(first))
+    let places = first.holes(alloc)?;
+    are_regular(alloc, gf, lost, &places, first.count_equations())
 }

@@ -3,7 +3,7 @@
 //! equations of all exponents to a system in order, with unit vectors on the right-hand side, whose solution is the
 //! inverse.
 
-ghost use Rattle.std.specs.Prelude.{◌≡◌, ◌≢◌, ℕ, ◌*◌, ◌<◌, ◌≤◌, length, map, slice_index, IfErr, IfOk, IsOk, Ok, ◌%◌, IfSome, IsNone};
+ghost use Rattle.std.specs.Prelude.{◌≡◌, ◌≢◌, ℕ, ◌*◌, ◌<◌, ◌≤◌, length, map, IfErr, IfOk, IsOk, Ok, ◌%◌, IfSome, IsNone};
 ghost use Rattle.std.specs.List.Sorted.{IsStrictlyIncreasing};
 ghost use Rattle.par2_spec.specs.Rank.{IsRepairable};
 ghost use Rattle.par2_spec.specs.Recovery.{coefficients};
@@ -16,10 +16,9 @@ ghost use Rattle.par2_matrix.specs.Echelon.{HoldsRow};
 ghost use Rattle.par2_matrix.specs.Systems.{IsIndependent, IsDependent};
 ghost use Rattle.par2_solve.specs.Elements.{AreByteRows, IsUnit};
 ghost use Rattle.par2_solve.specs.RunInverses.{BeginsWithRun};
-ghost use Rattle.par2_spec.specs.Runs.{AreSlices};
 ghost use Rattle.par2_solve.specs.Solvers.{InvertsFirst};
 
-use crate::exponents::{are_close, offer};
+use crate::exponents::{Lost, are_close, offer};
 use crate::filling::inverse_over_holes;
 use crate::products::buffer_at;
 use crate::rebuild_slices::RebuildFault;
@@ -48,42 +47,39 @@ pub(crate) struct Inversion<'a> {
 
 // Offers the equation of exponent `e`. Its right-hand side is the unit vector of its number among the kept ones, so
 // that the solution of the system is the inverse. `CutByUnit`: the equation was kept with this right-hand side.
-fn offer_unit(alloc: Global, gf: &Gf, system: &mut System, lost: &[u32], e: u32) -> Result<Offer>
+fn offer_unit(alloc: Global, gf: &Gf, system: &mut System, lost: &Lost, e: u32) -> Result<Offer>
     // The system has a column for each lost slice, and right-hand sides of as many elements.
-    requires count { length lost.now ≤ 32768 }
-    requires lost { (i : ℕ) → slice_index lost.now i < 32768 }
-    requires columns { system.old.columns ≡ length lost.now }
-    requires bytes { system.old.bytes ≡ 2 * length lost.now }
+    requires columns { system.old.columns ≡ length lost.now.numbers.now }
+    requires bytes { system.old.bytes ≡ 2 * length lost.now.numbers.now }
     // The result says whether the row was independent of those kept before, and a kept one is added
     // to the system.
     ensures kept { result ≡ Ok Offer.Kept
-        → CutByUnit system.old system.new (coefficients lost.now e) }
-    ensures reported { result ≡ Ok Offer.Kept → IsIndependent system.old (coefficients lost.now e) }
+        → CutByUnit system.old system.new (coefficients lost.now.numbers.now e) }
+    ensures reported { result ≡ Ok Offer.Kept
+        → IsIndependent system.old (coefficients lost.now.numbers.now e) }
     ensures dependent { result ≡ Ok Offer.Dependent
-        → IsDependent system.old (coefficients lost.now e) }
+        → IsDependent system.old (coefficients lost.now.numbers.now e) }
     // The shape never changes, and the system changes only if the equation is kept.
     ensures columns { system.new.columns ≡ system.old.columns }
     ensures bytes { system.new.bytes ≡ system.old.bytes }
     ensures unchanged { result ≢ Ok Offer.Kept → system.new ≡ system.old }
 {
-    let right = unit(alloc, lost.len(), system.rank())?;
-    offer(alloc, gf, system, lost, e, right)
+    let right = unit(alloc, lost.numbers.len(), system.rank())?;
+    offer(alloc, gf, system, lost.numbers, e, right)
 }
 
 // Offers the equations of the recovery slices in order, and collects the recovery slices whose equations are kept.
 fn eliminate<'a>(
     alloc: Global,
     gf: &Gf,
-    lost: &[u32],
+    lost: &Lost,
     recovery: &[(u32, &'a [u8])],
 ) -> Result<Elimination<'a>>
-    requires count { length lost.now ≤ 32768 }
-    requires lost { (i : ℕ) → slice_index lost.now i < 32768 }
-    requires exponents { IsStrictlyIncreasing (exponents_of recovery.now) }
-    ensures { IfOk result (λ found. IsEliminated lost.now
+    requires { IsStrictlyIncreasing (exponents_of recovery.now) }
+    ensures { IfOk result (λ found. IsEliminated lost.now.numbers.now
         (recovered_of recovery.now) (recovered_of found.kept.items) found.system) }
 {
-    let mut system = System::new(alloc, lost.len(), 2 * lost.len())?;
+    let mut system = System::new(alloc, lost.numbers.len(), 2 * lost.numbers.len())?;
     let mut kept = Vec::new(alloc);
     for i in 0..recovery.len() {
         let slice = recovery[i];
@@ -100,20 +96,17 @@ fn eliminate<'a>(
 fn invert_by_elimination<'a>(
     alloc: Global,
     gf: &Gf,
-    lost: &[u32],
+    lost: &Lost,
     recovery: &[(u32, &'a [u8])],
 ) -> Result<Inversion<'a>, RebuildFault>
-    // The slices are numbers of a PAR2 set, and the exponents rise.
-    requires count { length lost.now ≤ 32768 }
-    requires lost { (i : ℕ) → slice_index lost.now i < 32768 }
-    requires exponents { IsStrictlyIncreasing (exponents_of recovery.now) }
+    requires { IsStrictlyIncreasing (exponents_of recovery.now) }
     // The first exponents whose equations are independent are kept, and the inverse is theirs.
-    ensures kept { IfOk result (KeepsThose lost.now recovery.now) }
-    ensures inverse { IfOk result (HasInverse lost.now) }
+    ensures kept { IfOk result (KeepsThose lost.now.numbers.now recovery.now) }
+    ensures inverse { IfOk result (HasInverse lost.now.numbers.now) }
     // It succeeds only if the lost slices are determined; otherwise the fault says so with the true
     // rank.
-    ensures enough { IsOk result → IsRepairable lost.now (exponents_of recovery.now) }
-    ensures refused { IfErr result (IsTrueFault lost.now (exponents_of recovery.now)) }
+    ensures enough { IsOk result → IsRepairable lost.now.numbers.now (exponents_of recovery.now) }
+    ensures refused { IfErr result (IsTrueFault lost.now.numbers.now (exponents_of recovery.now)) }
 {
     let Elimination { kept, system } = eliminate(alloc, gf, lost, recovery)?;
     let rank = system.rank();
@@ -123,7 +116,7 @@ fn invert_by_elimination<'a>(
             inverse: Inverse::Rows(rows_of(alloc, &buffers)?),
         }),
         Err(_) => Err(RebuildFault::NotRepairable {
-            missing: lost.len(),
+            missing: lost.numbers.len(),
             rank,
         }),
     }
@@ -205,18 +198,17 @@ fn run_at_front(exponents: &[u32], count: usize) -> Option<u32>
 fn inverse_at_front<'a>(
     alloc: Global,
     gf: &'a Gf,
-    lost: &[u32],
+    lost: &Lost,
     exponents: &[u32],
 ) -> Result<Option<Inverse<'a>>>
-    requires slices { AreSlices lost.now }
-    requires count { length lost.now ≤ 32768 }
-    requires exponents { IsStrictlyIncreasing exponents.now }
-    ensures { IfOk result (λ found. IfSome found (InvertsFirst lost.now exponents.now)) }
+    requires { IsStrictlyIncreasing exponents.now }
+    ensures { IfOk result (λ found.
+        IfSome found (InvertsFirst lost.now.numbers.now exponents.now)) }
 {
-    if let Some(first) = run_at_front(exponents, lost.len()) {
+    if let Some(first) = run_at_front(exponents, lost.numbers.len()) {
         return Ok(Some(inverse_for_run(alloc, gf, lost, first)?));
     }
-    if lost.len() < LOCATED {
+    if lost.numbers.len() < LOCATED {
         return Ok(None);
     }
     inverse_over_holes(alloc, gf, lost, exponents)
@@ -228,26 +220,22 @@ fn inverse_at_front<'a>(
 pub(crate) fn invert<'a>(
     alloc: Global,
     gf: &'a Gf,
-    lost: &[u32],
+    lost: &Lost,
     recovery: &[(u32, &'a [u8])],
 ) -> Result<Inversion<'a>, RebuildFault>
-    // The lost slices and the exponents rise, and slices are numbers of a PAR2 set.
-    requires count { length lost.now ≤ 32768 }
-    requires lost { (i : ℕ) → slice_index lost.now i < 32768 }
-    requires rise { IsStrictlyIncreasing lost.now }
-    requires exponents { IsStrictlyIncreasing (exponents_of recovery.now) }
+    requires { IsStrictlyIncreasing (exponents_of recovery.now) }
     // The first exponents whose equations are independent are kept, and the inverse is theirs.
-    ensures kept { IfOk result (KeepsThose lost.now recovery.now) }
-    ensures inverse { IfOk result (HasInverse lost.now) }
+    ensures kept { IfOk result (KeepsThose lost.now.numbers.now recovery.now) }
+    ensures inverse { IfOk result (HasInverse lost.now.numbers.now) }
     // It succeeds only if the lost slices are determined; otherwise the fault says so with the true
     // rank.
-    ensures enough { IsOk result → IsRepairable lost.now (exponents_of recovery.now) }
-    ensures refused { IfErr result (IsTrueFault lost.now (exponents_of recovery.now)) }
+    ensures enough { IsOk result → IsRepairable lost.now.numbers.now (exponents_of recovery.now) }
+    ensures refused { IfErr result (IsTrueFault lost.now.numbers.now (exponents_of recovery.now)) }
 {
     let exponents = exponents_of(alloc, recovery)?;
     let Some(inverse) = inverse_at_front(alloc, gf, lost, &exponents)? else {
         return invert_by_elimination(alloc, gf, lost, recovery);
     };
-    let kept = Vec::from_slice(alloc, &recovery[..lost.len()])?;
+    let kept = Vec::from_slice(alloc, &recovery[..lost.numbers.len()])?;
     Ok(Inversion { kept, inverse })
 }

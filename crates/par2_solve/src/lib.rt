@@ -5,6 +5,7 @@
 #![tactic(auto)]
 
 mod additions;
+mod encoder;
 mod exponents;
 mod filling;
 mod holes;

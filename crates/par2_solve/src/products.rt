@@ -20,6 +20,14 @@ use std::alloc::Global;
 /// caches.
 pub(crate) const BLOCK: usize = 4096;
 
+/// Columns `from` up to `to`. A column is a word of each buffer.
+#[derive(Clone, Copy)]
+pub(crate) struct ColumnRange {
+    pub(crate) from: usize,
+    pub(crate) to: usize,
+    ghost order: { from ≤ to },
+}
+
 // Adds to target `r` the product of the factor and the source, in the source's columns.
 fn add_product(gf: &Gf, lists: &mut [Vec<u8>], r: usize, factor: &Factor, source: &Columns)
     requires place { r < length lists.old }
@@ -76,54 +84,30 @@ pub(crate) fn source_at<'a>(sources: &[&'a [u8]], k: usize) -> &'a [u8]
     sources[k]
 }
 
-// Adds to each target source `k`, whose bytes these are, times the target's factor for it, in the columns (words) from
-// `from` up to `to`. An empty source, which is a lost slice, adds nothing.
-fn add_bytes(
-    alloc: Global,
-    gf: &Gf,
-    factors: &[Vec<u16>],
-    k: usize,
-    bytes: &[u8],
-    targets: &mut [Vec<u8>],
-    from: usize,
-    to: usize,
-) -> Result<()>
-    requires rows { length factors.now ≡ length targets.old }
-    requires factors { HaveItem k factors.now }
-    requires order { from ≤ to }
-    requires room { HaveAtLeast (2 * to) targets.old }
-    ensures { IfOk result (λ _. AddsSource
-        (λ r. slice_index (list_at (lists_of factors.now) r) k) bytes.now
-        (lists_of targets.old) (lists_of targets.new) from to (length targets.old)) }
-{
-    if bytes.is_empty() {
-        return Ok(());
-    }
-    let source = Columns::new(alloc, bytes, from, to)?;
-    add_source(gf, factors, k, &source, targets);
-    Ok(())
-}
-
-// Adds to each target all sources, each times the target's factor for it, in the columns from `from` up to `to`.
+// Adds to each target all sources, each times the target's factor for it, in these columns. An empty source, which is a
+// lost slice, adds nothing.
 fn add_columns(
     alloc: Global,
     gf: &Gf,
     factors: &[Vec<u16>],
     sources: &[&[u8]],
+    columns: ColumnRange,
     targets: &mut [Vec<u8>],
-    from: usize,
-    to: usize,
 ) -> Result<()>
     requires rows { length factors.now ≡ length targets.old }
     requires factors { HaveAtLeast (length sources.now) factors.now }
-    requires order { from ≤ to }
-    requires room { HaveAtLeast (2 * to) targets.old }
+    requires room { HaveAtLeast (2 * columns.to) targets.old }
     ensures { IfOk result (λ _. Adds (lists_of factors.now) (buffers_of sources.now)
-        (lists_of targets.old) (lists_of targets.new) from to (length sources.now)) }
+        (lists_of targets.old) (lists_of targets.new)
+        columns.from columns.to (length sources.now)) }
 {
     for k in 0..sources.len() {
         let bytes = source_at(sources, k);
-        add_bytes(alloc, gf, factors, k, bytes, targets, from, to)?;
+        if bytes.is_empty() {
+            continue;
+        }
+        let source = Columns::new(alloc, bytes, columns.from, columns.to)?;
+        add_source(gf, factors, k, &source, targets);
     }
     Ok(())
 }
@@ -147,7 +131,8 @@ pub(crate) fn add_matrix_product(
     for block in 0..words.div_ceil(BLOCK) {
         let from = block * BLOCK;
         let to = from + BLOCK.min(words - from);
-        add_columns(alloc, gf, factors, sources, targets, from, to)?;
+        let columns = ColumnRange { from, to };
+        add_columns(alloc, gf, factors, sources, columns, targets)?;
     }
     Ok(())
 }

@@ -8,8 +8,11 @@ ghost use Rattle.par2_solve.specs.BufferContents.{buffers_of};
 ghost use Rattle.par2_solve.specs.Survivors.{exponents_of, lost_from, bytes_or_none};
 ghost use Rattle.par2_solve.specs.Rebuilding.{AnotherAlwaysAgrees, AreEnough, CanRebuild, IsNotRepairable, TwoAlwaysAgree};
 
+use crate::encoder::{Encoder, Recovered};
+use crate::exponents::Lost;
 use crate::inverse::{Inversion, bytes_of, exponents_of, invert};
 use crate::products::{fit_known, fit_lists, fit_recovery};
+use crate::room::rows_room;
 use crate::syndromes::solved;
 use par2_gf16::Gf;
 use par2_spec::Result;
@@ -88,9 +91,14 @@ fn solve(alloc: Global, gf: &Gf, survivors: &Survivors, found: &Inversion) -> Re
     let exponents = exponents_of(alloc, &found.kept)?;
     let recovery = bytes_of(alloc, &found.kept)?;
     let slices = slices_or_none(alloc, &survivors.known)?;
-    let inverse = &found.inverse;
-    let size = survivors.slice;
-    let buffers = solved(alloc, gf, inverse, &exponents, &recovery, &slices, size)?;
+    let slices = slices.as_slice();
+    let room = rows_room(slices, recovery.len());
+    let encoder = Encoder { gf, slices, room };
+    let kept = Recovered {
+        exponents: &exponents,
+        slices: &recovery,
+    };
+    let buffers = solved(alloc, &encoder, &found.inverse, &kept, survivors.slice)?;
     fit_lists(&buffers);
     Ok(buffers)
 }
@@ -118,6 +126,7 @@ pub fn rebuild(alloc: Global, gf: &Gf, survivors: &Survivors) -> Result<Vec<Vec<
     fit_known(&survivors.known);
     fit_recovery(&survivors.recovery);
     let lost = lost_numbers(alloc, &survivors.known)?;
+    let lost = Lost { numbers: &lost };
     let found = invert(alloc, gf, &lost, &survivors.recovery)?;
     Ok(solve(alloc, gf, survivors, &found)?)
 }

@@ -1,5 +1,5 @@
 //! Writes recovery slices into buffers (Parity Volume Set Specification 2.0, "Recovery Slice packet"). To write is to
-//! add to zeros, so this is `add_recovery` with as much memory as `room` allows.
+//! add to zeros, so this is `Encoder::add_recovery` with as much memory as `room` allows.
 
 ghost use Rattle.std.specs.Prelude.{◌≡◌, ◌≤◌, length, IfOk};
 ghost use Rattle.par2_spec.specs.Sums.{lists_of};
@@ -7,7 +7,7 @@ ghost use Rattle.par2_solve.specs.Answers.{LieIn};
 ghost use Rattle.par2_solve.specs.BufferContents.{buffers_of, AreBlank};
 ghost use Rattle.par2_solve.specs.WrittenSlices.{AreWritten, AreZeros};
 
-use crate::additions::add_recovery;
+use crate::encoder::{Encoder, Targets};
 use crate::products::{buffers_fit, fit_lists};
 use crate::room::whole_room;
 use par2_gf16::Gf;
@@ -46,7 +46,9 @@ pub fn write_recovery_slices(
 {
     buffers_fit(slices);
     let room = whole_room(slices, exponents.len());
-    add_recovery(alloc, gf, slices, exponents, buffers, outputs, room)?;
+    let outputs = *outputs;
+    let targets = Targets { exponents, outputs };
+    Encoder { gf, slices, room }.add_recovery(alloc, &targets, buffers)?;
     fit_lists(buffers);
     Ok(())
 }

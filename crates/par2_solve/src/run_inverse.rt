@@ -8,12 +8,11 @@ ghost use Rattle.std.specs.Prelude.{◌≡◌, ◌≢◌, ℕ, ◌<◌, ◌^◌,
 ghost use Rattle.std.specs.List.{range_with_len};
 ghost use Rattle.par2_spec.specs.Field.{mul, pow};
 ghost use Rattle.par2_spec.specs.Polynomials.{value, times, times_root, with_roots, quotient};
-ghost use Rattle.par2_spec.specs.Runs.{AreSlices};
 ghost use Rattle.par2_spec.specs.Sums.{lists_of};
 ghost use Rattle.par2_solve.specs.Inverses.{IsInverseMatrix};
 ghost use Rattle.par2_solve.specs.RunInverses.{AreScaledQuotients, IsScaledQuotient};
 
-use crate::exponents::coefficients;
+use crate::exponents::{Lost, coefficients};
 use par2_gf16::Gf;
 use par2_spec::Result;
 use std::alloc::Global;
@@ -113,13 +112,12 @@ fn all_rows(alloc: Global, gf: &Gf, p: &[u16], points: &[u16], first: u32) -> Re
 
 /// The rows of the inverse for the exponents from `first` on, as many as slices are lost. `IsInverseMatrix`: the
 /// product of the matrix of their coefficients for the lost slices and these rows is the identity.
-pub(crate) fn run_inverse(alloc: Global, gf: &Gf, lost: &[u32], first: u32) -> Result<Vec<Vec<u16>>>
-    requires { AreSlices lost.now }
-    ensures { IfOk result (λ rows. IsInverseMatrix
-        lost.now (range_with_len first (length lost.now)) (lists_of rows.items)) }
+pub(crate) fn run_inverse(alloc: Global, gf: &Gf, lost: &Lost, first: u32) -> Result<Vec<Vec<u16>>>
+    ensures { IfOk result (λ rows. IsInverseMatrix lost.now.numbers.now
+        (range_with_len first (length lost.now.numbers.now)) (lists_of rows.items)) }
 {
     // Exponent 1 multiplies each slice by its constant.
-    let constants = coefficients(alloc, gf, lost, 1)?;
+    let constants = coefficients(alloc, gf, lost.numbers, 1)?;
     let points = constants.as_slice();
     let p = with_roots(alloc, gf, points)?;
     all_rows(alloc, gf, &p, points, first)

@@ -6,10 +6,9 @@ ghost use Rattle.std.specs.Prelude.{◌≡◌, ◌≢◌, ℕ, ◌<◌, ◌≤�
 ghost use Rattle.std.specs.List.{range_with_len};
 ghost use Rattle.par2_spec.specs.Field.{mul, pow};
 ghost use Rattle.par2_spec.specs.Polynomials.{value, quotient};
-ghost use Rattle.par2_spec.specs.Runs.{AreSlices};
 ghost use Rattle.par2_solve.specs.Solvers.{AreFactors, Inverts};
 
-use crate::exponents::coefficients;
+use crate::exponents::{Lost, coefficients};
 use crate::run_inverse::{derivative, inverse_of, run_inverse, with_roots};
 use crate::solver::Inverse;
 use par2_gf16::Gf;
@@ -58,16 +57,14 @@ fn after_first(alloc: Global, p: &[u16]) -> Result<Vec<u16>>
 pub(crate) fn run_locator<'a>(
     alloc: Global,
     gf: &'a Gf,
-    lost: &[u32],
+    lost: &Lost,
     first: u32,
 ) -> Result<Locator<'a>>
-    requires slices { AreSlices lost.now }
-    requires count { length lost.now ≤ 32768 }
-    ensures { IfOk result (λ locator. Inverts
-        lost.now (range_with_len first (length lost.now)) (Inverse.Located locator)) }
+    ensures { IfOk result (λ locator. Inverts lost.now.numbers.now
+        (range_with_len first (length lost.now.numbers.now)) (Inverse.Located locator)) }
 {
     // Exponent 1 multiplies each slice by its constant.
-    let constants = coefficients(alloc, gf, lost, 1)?;
+    let constants = coefficients(alloc, gf, lost.numbers, 1)?;
     let p = with_roots(alloc, gf, &constants)?;
     let factors = factors(alloc, gf, &p, &constants, first)?;
     let sequence = after_first(alloc, &p)?;
@@ -80,15 +77,13 @@ pub(crate) fn run_locator<'a>(
 pub(crate) fn inverse_for_run<'a>(
     alloc: Global,
     gf: &'a Gf,
-    lost: &[u32],
+    lost: &Lost,
     first: u32,
 ) -> Result<Inverse<'a>>
-    requires slices { AreSlices lost.now }
-    requires count { length lost.now ≤ 32768 }
-    ensures { IfOk result (λ inverse. Inverts
-        lost.now (range_with_len first (length lost.now)) inverse) }
+    ensures { IfOk result (λ inverse. Inverts lost.now.numbers.now
+        (range_with_len first (length lost.now.numbers.now)) inverse) }
 {
-    if lost.len() < LOCATED {
+    if lost.numbers.len() < LOCATED {
         Ok(Inverse::Rows(run_inverse(alloc, gf, lost, first)?))
     } else {
         Ok(Inverse::Located(run_locator(alloc, gf, lost, first)?))

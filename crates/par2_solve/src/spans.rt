@@ -8,7 +8,8 @@ ghost use Rattle.par2_solve.specs.Answers.{AddsRecovery, LieIn};
 ghost use Rattle.par2_solve.specs.Spans.{AreWithin, IsSpanOf, picked};
 
 use crate::additions::{add_sums, are_together, fit_output};
-use crate::products::buffer_at;
+use crate::encoder::{Encoder, Targets};
+use crate::products::{ColumnRange, buffer_at};
 use crate::recovery::blank;
 use par2_gf16::Gf;
 use par2_spec::Result;
@@ -55,31 +56,29 @@ fn picked(alloc: Global, lists: &[Vec<u8>], exponents: &[u32], first: u32) -> Re
     Ok(copies)
 }
 
-/// Adds to each output the recovery slice of its exponent, after the transform has computed those of all `count`
-/// numbers from the first exponent on. `count` is the result of `close_span`, so the copies take about as much
-/// memory as three times the outputs.
-pub(crate) fn add_over_span(
-    alloc: Global,
-    gf: &Gf,
-    slices: &[&[u8]],
-    exponents: &[u32],
-    buffers: &mut [Vec<u8>],
-    outputs: &Places,
-    count: usize,
-    room: usize,
-) -> Result<()>
-    requires slices { length slices.now ≤ 32768 }
-    requires span { IsSpanOf exponents.now count }
-    requires count { length exponents.now ≡ length outputs.now.places.now }
-    requires room { LieIn outputs.now buffers.old }
-    ensures { OnOk result
-        (AddsRecovery outputs.now slices.now exponents.now buffers.old buffers.new) }
-{
-    fit_output(buffers, outputs);
-    let (first, words) = (exponents[0], outputs.words);
-    let mut all = blank(alloc, count, 2 * words)?;
-    add_recovery_slices(alloc, gf, slices, words, first, all.as_mut_slice(), room)?;
-    let sums = picked(alloc, &all, exponents, first)?;
-    add_sums(gf, &sums, buffers, outputs, 0, words);
-    Ok(())
+impl<'a> Encoder<'a> {
+    /// Adds to each output the recovery slice of its exponent, after the transform has computed those of all `count`
+    /// numbers from the first exponent on. `count` is the result of `close_span`, so the copies take about as much
+    /// memory as three times the outputs.
+    pub(crate) fn add_over_span(
+        &self,
+        alloc: Global,
+        targets: &Targets,
+        count: usize,
+        buffers: &mut [Vec<u8>],
+    ) -> Result<()>
+        requires span { IsSpanOf targets.now.exponents.now count }
+        requires room { LieIn targets.now.outputs buffers.old }
+        ensures { OnOk result (AddsRecovery self.now targets.now buffers.old buffers.new) }
+    {
+        let Encoder { gf, slices, room } = *self;
+        let outputs = &targets.outputs;
+        fit_output(buffers, outputs);
+        let (first, to) = (targets.exponents[0], outputs.words);
+        let mut all = blank(alloc, count, 2 * to)?;
+        add_recovery_slices(alloc, gf, slices, to, first, all.as_mut_slice(), room)?;
+        let sums = picked(alloc, &all, targets.exponents, first)?;
+        add_sums(gf, &sums, ColumnRange { from: 0, to }, buffers, outputs);
+        Ok(())
+    }
 }

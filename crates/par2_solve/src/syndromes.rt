@@ -2,7 +2,7 @@
 //! of the known slices to it, so it is what the lost slices alone contribute. The inverse times the syndromes gives the
 //! lost slices, a block of columns at a time. A lost slice is given as an empty one, which contributes nothing.
 
-ghost use Rattle.std.specs.Prelude.{◌≡◌, ◌%◌, ◌<◌, ◌≤◌, ◌+◌, ◌++◌, length, map, IfOk};
+ghost use Rattle.std.specs.Prelude.{◌≡◌, ◌%◌, ◌<◌, ◌+◌, ◌++◌, length, map, IfOk};
 ghost use Rattle.par2_spec.specs.Sums.{OneChanged, list_at, lists_of};
 ghost use Rattle.par2_solve.specs.Answers.{AreOfSize, HaveColumns};
 ghost use Rattle.par2_solve.specs.Products.{AreByteLists};
@@ -10,11 +10,10 @@ ghost use Rattle.par2_solve.specs.Solvers.{TakesSources, rows_of};
 ghost use Rattle.par2_solve.specs.Syndromes.{chunk, AreSolved, AreExtended};
 ghost use Rattle.par2_solve.specs.BufferContents.{buffers_of, AreBlank};
 
-use crate::additions::with_recovery_slices;
+use crate::encoder::{Encoder, Recovered};
 use crate::products::{buffer_at, buffers_fit};
-use crate::room::{columns_at_once, rows_room};
+use crate::room::columns_at_once;
 use crate::solver::Inverse;
-use par2_gf16::Gf;
 use par2_slices::window_bytes;
 use par2_spec::Result;
 use std::alloc::Global;
@@ -47,35 +46,36 @@ pub(crate) fn borrowed(alloc: Global, buffers: &[Vec<u8>]) -> Result<Vec<&[u8]>>
     buffers.iter().map(|bytes| bytes.as_slice()).collect(alloc)
 }
 
-// The `count` bytes from byte `from` on of each lost slice: the inverse times the syndromes of these bytes. `recovery`
-// are the recovery slices of the exponents, and `slices` the input slices. `room` is memory in bytes.
+// The `count` bytes from byte `from` on of each lost slice: the inverse times the syndromes of these bytes.
 fn solved_block(
     alloc: Global,
-    gf: &Gf,
+    encoder: &Encoder,
     inverse: &Inverse,
-    exponents: &[u32],
-    recovery: &[&[u8]],
-    slices: &[&[u8]],
+    kept: &Recovered,
     from: usize,
     count: usize,
-    room: usize,
 ) -> Result<Vec<Vec<u8>>>
-    // The inverse has a column for each exponent, and each exponent has its recovery slice.
-    requires inverse { TakesSources (length recovery.now) inverse.now }
-    requires count { length slices.now ≤ 32768 }
-    requires exponents { length exponents.now ≡ length recovery.now }
+    // The inverse has a column for each recovery slice.
+    requires inverse { TakesSources (length kept.now.slices.now) inverse.now }
     // The bytes are whole words that each recovery slice has.
-    requires size { HaveColumns (from + count) recovery.now }
+    requires size { HaveColumns (from + count) kept.now.slices.now }
     requires even { count % 2 ≡ 0 }
     // The result is the inverse times the syndromes of these bytes.
-    ensures { IfOk result (λ buffers. AreSolved count (rows_of inverse.now) exponents.now
-        (map (chunk from count) (buffers_of slices.now))
-        (map (chunk from count) (buffers_of recovery.now)) (lists_of buffers.items)) }
+    ensures { IfOk result (λ buffers. AreSolved count
+        (rows_of inverse.now) kept.now.exponents.now
+        (map (chunk from count) (buffers_of encoder.now.slices.now))
+        (map (chunk from count) (buffers_of kept.now.slices.now)) (lists_of buffers.items)) }
 {
-    let recovery = windows(alloc, recovery, from, count)?;
+    let Encoder { gf, slices, room } = *encoder;
     let slices = windows(alloc, slices, from, count)?;
-    let words = count / 2;
-    let syndromes = with_recovery_slices(alloc, gf, &slices, words, exponents, &recovery, room)?;
+    let recovery = windows(alloc, kept.slices, from, count)?;
+    let slices = slices.as_slice();
+    let block = Encoder { gf, slices, room };
+    let part = Recovered {
+        exponents: kept.exponents,
+        slices: &recovery,
+    };
+    let syndromes = block.with_recovery_slices(alloc, count / 2, &part)?;
     let sources = borrowed(alloc, &syndromes)?;
     inverse.products(alloc, gf, &sources, count, room)
 }
@@ -114,42 +114,38 @@ fn extend(buffers: &mut [Vec<u8>], blocks: &[Vec<u8>]) -> Result<()>
     Ok(())
 }
 
-/// The lost slices, of `size` bytes each: the inverse times the syndromes of these exponents, block by block.
-/// `recovery` are the recovery slices of the exponents, and `slices` all input slices, a lost one empty.
+/// The lost slices, of `size` bytes each: the inverse times the syndromes of the kept exponents, block by block. The
+/// encoder has all input slices, a lost one empty, and the room that the transform's rows may take.
 pub(crate) fn solved(
     alloc: Global,
-    gf: &Gf,
+    encoder: &Encoder,
     inverse: &Inverse,
-    exponents: &[u32],
-    recovery: &[&[u8]],
-    slices: &[&[u8]],
+    kept: &Recovered,
     size: usize,
 ) -> Result<Vec<Vec<u8>>>
-    // The inverse has a column for each exponent, and each exponent has its recovery slice.
-    requires inverse { TakesSources (length recovery.now) inverse.now }
-    requires count { length slices.now ≤ 32768 }
-    requires exponents { length exponents.now ≡ length recovery.now }
+    // The inverse has a column for each recovery slice.
+    requires inverse { TakesSources (length kept.now.slices.now) inverse.now }
     // Recovery slices are whole words, all of the same size.
-    requires size { AreOfSize size recovery.now }
+    requires size { AreOfSize size kept.now.slices.now }
     requires even { size % 2 ≡ 0 }
     // The result is the inverse times the syndromes.
-    ensures solved { IfOk result (λ buffers. AreSolved size (rows_of inverse.now)
-        exponents.now (buffers_of slices.now) (buffers_of recovery.now) (lists_of buffers.items)) }
+    ensures solved { IfOk result (λ buffers. AreSolved size
+        (rows_of inverse.now) kept.now.exponents.now
+        (buffers_of encoder.now.slices.now) (buffers_of kept.now.slices.now)
+        (lists_of buffers.items)) }
     // For the prover: each item of the slices is a byte.
-    ensures slices { IfOk result (λ _. AreByteLists (buffers_of slices.now)) }
-    ensures recovery { IfOk result (λ _. AreByteLists (buffers_of recovery.now)) }
+    ensures slices { IfOk result (λ _. AreByteLists (buffers_of encoder.now.slices.now)) }
+    ensures recovery { IfOk result (λ _. AreByteLists (buffers_of kept.now.slices.now)) }
 {
-    buffers_fit(slices);
-    buffers_fit(recovery);
-    let at_once = columns_at_once(slices, recovery.len(), size).max(inverse.least());
-    let room = rows_room(slices, recovery.len());
+    buffers_fit(encoder.slices);
+    buffers_fit(kept.slices);
+    let columns = columns_at_once(encoder.slices, kept.slices.len(), size);
+    let at_once = columns.max(inverse.least());
     let mut buffers = reserved(alloc, inverse.len(), size)?;
     let mut from = 0;
     while from < size {
         let count = at_once.min(size - from);
-        let lost = solved_block(
-            alloc, gf, inverse, exponents, recovery, slices, from, count, room,
-        )?;
+        let lost = solved_block(alloc, encoder, inverse, kept, from, count)?;
         extend(buffers.as_mut_slice(), &lost)?;
         from += count;
     }

@@ -1,28 +1,29 @@
 use Rattle.par2_solve.proofs.Common.{◌≡◌, ◌+◌, ◌≤◌, ◌∙◌, ℕ, List, ap, ap₂, arith, rules, subst, length, length-take, lists_of, IsRepairable}
-use Rattle.par2_solve.specs.Filling.{falling, AreOrigins}
+use Rattle.par2_solve.specs.Filling.{falling}
 use Rattle.par2_solve.specs.Holes.{AreHoleInverse, holes, locator, span}
 use Rattle.par2_solve.specs.Solvers.{Inverts}
 use Rattle.par2_solve.specs.declared.filling.Filling.{Filling}
 use Rattle.par2_solve.specs.declared.solver.Inverse.TheVariants.{Filled}
 use Rattle.par2_solve.proofs.Filled.{inverts_over_holes}
 use Rattle.par2_solve.proofs.RightSides.{falling_long}
+use Rattle.par2_solve.proofs.Runs.{slices_of}
 use Rattle.par2_solve.proofs.filling.inverse_over_holes.Goals as goal
 
 pub hole_inverse-requires : goal.hole_inverse-requires
-hole_inverse-requires c = omega (arith, c.count_equations-count.ensures, c.in-Some.ensures.near, c.in-Some.ensures.count, c.requires.count)
+hole_inverse-requires c = omega (arith, c.count_equations-count.ensures, c.in-Some.ensures.near, c.in-Some.ensures.count, c.args.lost.now.count)
 
 pub new-requires : goal.new-requires
 new-requires c =
-    let es = c.in-Some.first.now in
+    let es = c.in-Some.first.exponents.now in
     let n = c.count_equations-count.result in
     let long : length c.in_ok-falling.field-0.items ≡ length es + n = ap (λ (xs : List ℕ). length xs) c.in_ok-falling.ensures ∙ falling_long c.deref-3.result.now (length es + n) in
-    let few : length c.args.lost.now + n + n ≤ 65536 = search rules in
+    let few : length c.args.lost.now.numbers.now + n + n ≤ 65536 = search rules in
     omega (arith, long, c.in-Some.ensures.count, few)
 
 pub returns : goal.returns
 returns c =
-    let ks = c.args.lost.now in
-    let es = c.in-Some.first.now in
+    let ks = c.args.lost.now.numbers.now in
+    let es = c.in-Some.first.exponents.now in
     let n = c.count_equations-count.result in
     let fit : n + length es ≡ span es + 1 = c.count_equations-count.ensures in
     let p : c.deref-3.result.now ≡ locator ks = c.deref-3.ensures.value ∙ c.in_ok-p.ensures in
@@ -30,8 +31,7 @@ returns c =
     let filling : Filling = record { equations = c.in_ok-new.field-0; holes = c.in-Some-2.inverse; origins = c.in_ok-origins.field-0; locator = c.in_ok-run_locator.field-0 } in
     let window : length es + n ≡ span es + 1 = omega (arith, fit) in
     let sequence : c.in_ok-new.field-0.sequence.items ≡ falling (locator ks) (span es + 1) = c.in_ok-new.ensures.sequence ∙ c.in_ok-falling.ensures ∙ ap₂ falling p window in
-    let origins : AreOrigins es (span es + 1) c.in_ok-origins.field-0.items = subst (λ m. AreOrigins es m c.in_ok-origins.field-0.items) window c.in_ok-origins.ensures in
-    let both = inverts_over_holes ks es n filling c.requires.slices c.in-Some.ensures.rise c.in-Some.ensures.some c.in-Some.ensures.count fit c.in_ok-new.ensures.count sequence inverse origins c.in_ok-run_locator.ensures in
+    let both = inverts_over_holes ks es n filling (slices_of c.args.lost.now) c.in-Some.first.rise c.in-Some.first.some c.in-Some.ensures.count fit c.in_ok-new.ensures.count sequence inverse c.in_ok-origins.ensures c.in_ok-run_locator.ensures in
     record {
       within = (let least = length-take (length ks) c.args.exponents.now in let long = ap (λ (xs : List ℕ). length xs) c.in-Some.ensures.first in let count = c.in-Some.ensures.count in omega (arith, least, long, count));
       inverts = subst (λ xs. Inverts ks xs (Filled filling)) c.in-Some.ensures.first both.0;

@@ -8,15 +8,15 @@ use Rattle.par2_solve.proofs.filling.origin_at.Goals as goal
 
 pub overflow_add-exponents : goal.overflow_add-exponents
 overflow_add-exponents c =
-    let es = c.args.exponents.now in
-    let order = rises_to_the_end es c.requires.rise c.requires.some in
+    let es = c.args.window.now.exponents.now in
+    let order = rises_to_the_end es c.args.window.now.rise c.args.window.now.some in
     let last : get_or es (length es - 1) 0 < 2 ^ 32 = Fits-lt-pow (c.type_inv.exponents (length es - 1)) in
     let small : get_or es 0 0 + c.args.x < 2 ^ 32 = omega (arith, order, last, c.requires.within) in
     search (rules, small)
 
 pub hole_at-requires-clause-hole : goal.hole_at-requires-clause-hole
 hole_at-requires-clause-hole c =
-    let es = c.args.exponents.now in
+    let es = c.args.window.now.exponents.now in
     let e = get_or es 0 0 + c.args.x in
-    let hole : is_hole es c.args.x ≡ true = sym (searched_hole es e (Err c.in-Err.field-0) (searched es e (Err c.in-Err.field-0) c.in-Err.ensures.position (λ i j low inside. let by = rises_between es c.requires.rise i j low inside in omega (arith, by)))) in
-    subst (λ hs. Contains hs c.args.x) (sym c.requires.places) (hole_contained es c.args.x c.requires.rise c.requires.some c.requires.within hole)
+    let hole : is_hole es c.args.x ≡ true = sym (searched_hole es e (Err c.in-Err.field-0) (searched es e (Err c.in-Err.field-0) c.in-Err.ensures.position (λ i j low inside. let by = rises_between es c.args.window.now.rise i j low inside in omega (arith, by)))) in
+    subst (λ hs. Contains hs c.args.x) (sym c.requires.places) (hole_contained es c.args.x c.args.window.now.rise c.args.window.now.some c.requires.within hole)

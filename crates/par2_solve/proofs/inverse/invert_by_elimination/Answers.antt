@@ -7,7 +7,7 @@ returns-in-Ok-clause-inverse c =
     let buffers = c.in-Ok.buffers.items in
     record {
       wide = tt;
-      is_inverse = are_inverse c.args.lost.now (recovered_of c.args.recovery.now) (recovered_of c.in_ok-kept.field-0.kept.items) c.in_ok-kept.field-0.system (lists_of buffers) (lists_of c.in_ok-rows_of-in-Ok.field-0.items) c.in_ok-kept.ensures c.in-Ok.ensures.ok (c.in-Ok.ensures.when.0 refl)
+      is_inverse = are_inverse c.args.lost.now.numbers.now (recovered_of c.args.recovery.now) (recovered_of c.in_ok-kept.field-0.kept.items) c.in_ok-kept.field-0.system (lists_of buffers) (lists_of c.in_ok-rows_of-in-Ok.field-0.items) c.in_ok-kept.ensures c.in-Ok.ensures.ok (c.in-Ok.ensures.when.0 refl)
           (rw (c.deref.ensures.value, ← length-lists_of buffers) at c.in_ok-rows_of-in-Ok.ensures);
     }
 

@@ -2,44 +2,45 @@ use Rattle.par2_solve.proofs.Common.{◌≡◌, ◌∙◌, ℕ, List, Bor, map, 
 use Rattle.par2_solve.proofs.Beginnings.{lost_rise}
 use Rattle.par2_solve.proofs.Rebuilding.{lost_are, lost-lt, length-lost_from}
 use Rattle.par2_solve.proofs.Choices.{another, two}
-use Rattle.par2_solve.proofs.rebuild_slices.rebuild.Goals.{After-deref-5}
+use Rattle.par2_solve.proofs.rebuild_slices.rebuild.Goals.{After-deref-4}
 use Rattle.par2_solve.proofs.rebuild_slices.rebuild.Goals as goal
 
 -- the bytes of recovery slices
 abbrev bytes_given : List (ℕ × Bor (List ℕ)) → List (List ℕ)
 bytes_given recovery = map (λ r. r.1) (recovered_of recovery)
 
-missing_are : (c : After-deref-5) → c.deref-4.result.now ≡ lost_from 0 c.args.survivors.now.known.items
+missing_are : (c : After-deref-4) → c.deref-4.result.now ≡ lost_from 0 c.args.survivors.now.known.items
 missing_are c = c.deref-4.ensures.value ∙ c.in_ok-lost.ensures ∙ ap (lost_from 0) c.deref-3.ensures.value
 
-are_lost : (c : After-deref-5) → c.deref-4.result.now ≡ lost (known_among c.args.survivors.now)
+are_lost : (c : After-deref-4) → c.deref-4.result.now ≡ lost (known_among c.args.survivors.now)
 are_lost c = missing_are c ∙ sym (lost_are c.args.survivors.now.slice c.args.survivors.now.known.items)
 
-pub invert-requires-clause-count : goal.invert-requires-clause-count
-invert-requires-clause-count c = rw (missing_are (goal.at.invert-requires-clause-count c).After-deref-5) (length-lost_from 0 32768 c.args.survivors.now.known.items c.requires.count)
-
-pub invert-requires-clause-lost : goal.invert-requires-clause-lost
-invert-requires-clause-lost c = rw (missing_are (goal.at.invert-requires-clause-lost c).After-deref-5) (lost-lt c.args.survivors.now.known.items c.requires.count)
-
-pub invert-requires-clause-rise : goal.invert-requires-clause-rise
-invert-requires-clause-rise c = rw (missing_are (goal.at.invert-requires-clause-rise c).After-deref-5) (lost_rise 0 c.args.survivors.now.known.items)
+pub invariant_of-lost : goal.invariant_of-lost
+invariant_of-lost c =
+    let at = (goal.at.invariant_of-lost c).After-deref-4 in
+    let survivors = c.args.survivors.now in
+    rw (missing_are at) (record {
+      count = length-lost_from 0 32768 survivors.known.items c.requires.count;
+      below = lost-lt survivors.known.items c.requires.count;
+      rise = lost_rise 0 survivors.known.items;
+    })
 
 pub returns-in_err-found-clause-refused : goal.returns-in_err-found-clause-refused
 returns-in_err-found-clause-refused c =
     let reported : IfErr c.from_residual-in_err-found.result (IsTrueFault c.deref-4.result.now (exponents_of c.deref-5.result.now)) = search rules in
-    rw (are_lost (goal.at.returns-in_err-found-clause-refused c).After-deref-5, c.deref-5.ensures.value) at reported
+    rw (are_lost (goal.at.returns-in_err-found-clause-refused c).After-deref-4, c.deref-5.ensures.value) at reported
 
 pub solve-requires-clause-kept : goal.solve-requires-clause-kept
-solve-requires-clause-kept c = rw (are_lost (goal.at.solve-requires-clause-kept c).After-deref-5, c.deref-5.ensures.value) at c.in_ok-found.ensures.kept
+solve-requires-clause-kept c = rw (are_lost (goal.at.solve-requires-clause-kept c).After-deref-4, c.deref-5.ensures.value) at c.in_ok-found.ensures.kept
 
 pub solve-requires-clause-inverse : goal.solve-requires-clause-inverse
-solve-requires-clause-inverse c = rw (are_lost (goal.at.solve-requires-clause-inverse c).After-deref-5) at c.in_ok-found.ensures.inverse
+solve-requires-clause-inverse c = rw (are_lost (goal.at.solve-requires-clause-inverse c).After-deref-4) at c.in_ok-found.ensures.inverse
 
 pub solve-requires-clause-enough : goal.solve-requires-clause-enough
-solve-requires-clause-enough c = rw (are_lost (goal.at.solve-requires-clause-enough c).After-deref-5, c.deref-5.ensures.value) at (c.in_ok-found.ensures.enough refl)
+solve-requires-clause-enough c = rw (are_lost (goal.at.solve-requires-clause-enough c).After-deref-4, c.deref-5.ensures.value) at (c.in_ok-found.ensures.enough refl)
 
 pub returns-clause-enough : goal.returns-clause-enough
-returns-clause-enough c = λ _. rw (are_lost (goal.at.returns-clause-enough c).After-deref-5, c.deref-5.ensures.value) at (c.in_ok-found.ensures.enough refl)
+returns-clause-enough c = λ _. rw (are_lost (goal.at.returns-clause-enough c).After-deref-4, c.deref-5.ensures.value) at (c.in_ok-found.ensures.enough refl)
 
 pub returns-in_err-found-clause-another : goal.returns-in_err-found-clause-another
 returns-in_err-found-clause-another c some =

@@ -4,36 +4,36 @@ use Rattle.par2_solve.proofs.Combinations.{length-buffers_of}
 use Rattle.par2_solve.proofs.Finishing.{answer, takes_sources}
 use Rattle.par2_solve.proofs.Inverting.{length-recovered_of, many_buffers}
 use Rattle.par2_solve.proofs.Rebuilding.{lost_are}
-use Rattle.par2_solve.proofs.rebuild_slices.solve.Goals.{After-deref-6}
+use Rattle.par2_solve.proofs.rebuild_slices.solve.Goals.{After-as_slice-slices, After-deref-5}
 use Rattle.par2_solve.proofs.rebuild_slices.solve.Goals as goal
 
-exponents_are : (c : After-deref-6) → c.deref-4.result.now ≡ exponents_of c.args.found.now.kept.items
+exponents_are : (c : After-deref-5) → c.deref-4.result.now ≡ exponents_of c.args.found.now.kept.items
 exponents_are c = c.deref-4.ensures.value ∙ c.in_ok-exponents.ensures ∙ ap exponents_of c.deref.ensures.value
 
-recovery_are : (c : After-deref-6) → buffers_of c.deref-5.result.now ≡ map (λ r. r.1) (recovered_of c.args.found.now.kept.items)
+recovery_are : (c : After-deref-5) → buffers_of c.deref-5.result.now ≡ map (λ r. r.1) (recovered_of c.args.found.now.kept.items)
 recovery_are c = ap buffers_of c.deref-5.ensures.value ∙ c.in_ok-recovery.ensures ∙ ap (λ ks. map (λ (r : ℕ × List ℕ). r.1) (recovered_of ks)) c.deref-2.ensures.value
 
-slices_are : (c : After-deref-6) → buffers_of c.deref-6.result.now ≡ map bytes_or_none c.args.survivors.now.known.items
-slices_are c = ap buffers_of c.deref-6.ensures.value ∙ c.in_ok-slices.ensures ∙ ap (map bytes_or_none) c.deref-3.ensures.value
+slices_are : (c : After-as_slice-slices) → buffers_of c.as_slice-slices.result.now ≡ map bytes_or_none c.args.survivors.now.known.items
+slices_are c = ap buffers_of c.as_slice-slices.ensures.value ∙ c.in_ok-slices.ensures ∙ ap (map bytes_or_none) c.deref-3.ensures.value
 
-many : (c : After-deref-6) → length c.deref-5.result.now ≡ length c.args.found.now.kept.items
+many : (c : After-deref-5) → length c.deref-5.result.now ≡ length c.args.found.now.kept.items
 many c = many_buffers c.args.found.now.kept.items c.deref-5.result.now (recovery_are c)
 
 pub solved-requires-clause-inverse : goal.solved-requires-clause-inverse
-solved-requires-clause-inverse c = subst (λ n. TakesSources n c.args.found.now.inverse) (sym (many (goal.at.solved-requires-clause-inverse c).After-deref-6)) (takes_sources (lost (known_among c.args.survivors.now)) c.args.found.now.kept.items c.args.found.now.inverse c.requires.inverse)
+solved-requires-clause-inverse c = subst (λ n. TakesSources n c.args.found.now.inverse) (sym (many (goal.at.solved-requires-clause-inverse c).After-deref-5)) (takes_sources (lost (known_among c.args.survivors.now)) c.args.found.now.kept.items c.args.found.now.inverse c.requires.inverse)
 
-pub solved-requires-clause-exponents : goal.solved-requires-clause-exponents
-solved-requires-clause-exponents c =
-    let at = (goal.at.solved-requires-clause-exponents c).After-deref-6 in
-    ap length (exponents_are at) ∙ length-map (recovered_of c.args.found.now.kept.items) (λ (r : ℕ × List ℕ). r.0) ∙ length-recovered_of c.args.found.now.kept.items ∙ sym (many at)
+pub invariant_of-kept : goal.invariant_of-kept
+invariant_of-kept c =
+    let at = (goal.at.invariant_of-kept c).After-deref-5 in
+    record { count = ap length (exponents_are at) ∙ length-map (recovered_of c.args.found.now.kept.items) (λ (r : ℕ × List ℕ). r.0) ∙ length-recovered_of c.args.found.now.kept.items ∙ sym (many at) }
 
-pub solved-requires-clause-count : goal.solved-requires-clause-count
-solved-requires-clause-count c =
-    rw (← length-buffers_of c.deref-6.result.now, slices_are (goal.at.solved-requires-clause-count c).After-deref-6, length-map c.args.survivors.now.known.items bytes_or_none) c.requires.survivors.count
+pub invariant_of-encoder : goal.invariant_of-encoder
+invariant_of-encoder c =
+    record { few = rw (← length-buffers_of c.as_slice-slices.result.now, slices_are (goal.at.invariant_of-encoder c).After-as_slice-slices, length-map c.args.survivors.now.known.items bytes_or_none) c.requires.survivors.count }
 
 pub solved-requires-clause-size : goal.solved-requires-clause-size
 solved-requires-clause-size c = λ j h.
-    let at = (goal.at.solved-requires-clause-size c).After-deref-6 in
+    let at = (goal.at.solved-requires-clause-size c).After-deref-5 in
     let recs = recovered_of c.args.found.now.kept.items in
     let low : j < length recs = (let n = length-recovered_of c.args.found.now.kept.items in let count = many at in omega (arith, h, n, count)) in
     let sizes = subst (λ rs. AllByRecursion (λ r. length r.1 ≡ c.args.survivors.now.slice) rs) (sym c.requires.kept) (all-filter (λ r. length r.1 ≡ c.args.survivors.now.slice) _ (recovered_of c.args.survivors.now.recovery.items) c.requires.survivors.recovery) in
@@ -41,10 +41,10 @@ solved-requires-clause-size c = λ j h.
 
 pub returns : goal.returns
 returns c =
-    let at = (goal.at.returns c).After-deref-6 in
+    let at = (goal.at.returns c).After-deref-5 in
     let made = answer c.args.survivors.now c.requires.survivors (lost (known_among c.args.survivors.now)) (recovered_of c.args.found.now.kept.items) (rows_of c.args.found.now.inverse) (lists_of c.in_ok-buffers.buffers.items)
     (lost_are c.args.survivors.now.slice c.args.survivors.now.known.items) c.requires.kept c.requires.inverse.is_inverse c.requires.enough
-    (subst AreByteLists (slices_are at) c.in_ok-buffers.ensures.slices)
+    (subst AreByteLists (slices_are (goal.at.returns c).After-as_slice-slices) c.in_ok-buffers.ensures.slices)
     (subst AreByteLists (recovery_are at) c.in_ok-buffers.ensures.recovery)
-    (rw (recovery_are at, slices_are at, exponents_are at) at c.in_ok-buffers.ensures.solved) (rw c.deref-7.ensures.value at c.fit_lists.ensures) in
+    (rw (recovery_are at, slices_are (goal.at.returns c).After-as_slice-slices, exponents_are at) at c.in_ok-buffers.ensures.solved) (rw c.deref-6.ensures.value at c.fit_lists.ensures) in
     record { rebuilt = made.0; count = sym (length-lists_of c.in_ok-buffers.buffers.items) ∙ made.1 }

@@ -3,6 +3,7 @@ use Rattle.par2_solve.specs.Solvers.{AreFactors}
 use Rattle.par2_solve.specs.Located.{quotient_rows}
 use Rattle.par2_solve.proofs.RunInverses.{first_powers, at_itself}
 use Rattle.par2_solve.proofs.Locating.{located_inverse, located_wide}
+use Rattle.par2_solve.proofs.Runs.{slices_of}
 use Rattle.par2_solve.proofs.run_locator.run_locator.Goals as goal
 
 constants_are : (lost items : List ℕ) → items ≡ coefficients lost 1 → items ≡ map constant lost
@@ -13,15 +14,15 @@ roots_are lost items reported p is same roots = roots ∙ ap with_roots (same �
 
 pub factors-requires : goal.factors-requires
 factors-requires c = λ j h.
-    let lost = c.args.lost.now in
+    let lost = c.args.lost.now.numbers.now in
     let points : c.deref-3.result.now ≡ map constant lost = c.deref-3.ensures.value ∙ constants_are lost c.in_ok-constants.constants.items c.in_ok-constants.ensures in
     let p : c.deref-2.result.now ≡ with_roots (map constant lost) = c.deref-2.ensures.value ∙ roots_are lost c.in_ok-constants.constants.items c.deref.result.now c.in_ok-p.p.items c.in_ok-constants.ensures c.deref.ensures.value c.in_ok-p.ensures in
     let low : j < length lost = (let long = length-map lost constant in let same = ap (λ (xs : List ℕ). length xs) points in omega (arith, h, long, same)) in
-    rw (p, points) (at_itself lost c.args.first j c.requires.slices low)
+    rw (p, points) (at_itself lost c.args.first j (slices_of c.args.lost.now) low)
 
 pub after_first-requires : goal.after_first-requires
 after_first-requires c =
-    let lost = c.args.lost.now in
+    let lost = c.args.lost.now.numbers.now in
     let p : c.deref-4.result.now ≡ with_roots (map constant lost) = c.deref-4.ensures.value ∙ roots_are lost c.in_ok-constants.constants.items c.deref.result.now c.in_ok-p.p.items c.in_ok-constants.ensures c.deref.ensures.value c.in_ok-p.ensures in
     let long = length-with_roots (map constant lost) in
     let same = ap (λ (xs : List ℕ). length xs) p in
@@ -29,17 +30,17 @@ after_first-requires c =
 
 pub new-requires : goal.new-requires
 new-requires c =
-    let lost = c.args.lost.now in
+    let lost = c.args.lost.now.numbers.now in
     let p : c.deref-4.result.now ≡ with_roots (map constant lost) = c.deref-4.ensures.value ∙ roots_are lost c.in_ok-constants.constants.items c.deref.result.now c.in_ok-p.p.items c.in_ok-constants.ensures c.deref.ensures.value c.in_ok-p.ensures in
     let sequence : c.in_ok-sequence.sequence.items ≡ drop 1 (with_roots (map constant lost)) = c.in_ok-sequence.ensures ∙ ap (drop 1) p in
     record {
-      few = subst (λ (xs : List ℕ). length xs ≤ 32768) (sym sequence) (omega (arith, located_wide lost, c.requires.count));
+      few = subst (λ (xs : List ℕ). length xs ≤ 32768) (sym sequence) (omega (arith, located_wide lost, c.args.lost.now.count));
       factors = c.in_ok-factors.ensures.count ∙ ap (λ (xs : List ℕ). length xs) c.deref-3.ensures.value;
     }
 
 pub returns : goal.returns
 returns c =
-    let lost = c.args.lost.now in
+    let lost = c.args.lost.now.numbers.now in
     let first = c.args.first in
     let constants = map constant lost in
     let roots = with_roots constants in
@@ -60,6 +61,6 @@ returns c =
       is_inverse = subst (λ (xs : List ℕ). IsInverseMatrix lost run (quotient_rows xs locator.points.items locator.factors.items)) (sym sequence)
           (subst (λ (xs : List ℕ). IsInverseMatrix lost run (quotient_rows (drop 1 roots) xs locator.factors.items)) (sym points)
           (subst (λ (xs : List ℕ). IsInverseMatrix lost run (quotient_rows (drop 1 roots) constants xs)) (sym c.in_ok-locator.ensures.factors)
-          (located_inverse lost first factors c.requires.slices given)));
+          (located_inverse lost first factors (slices_of c.args.lost.now) given)));
       wide = ap (λ (xs : List ℕ). length xs) sequence ∙ located_wide lost;
     }

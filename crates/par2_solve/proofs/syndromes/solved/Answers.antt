@@ -8,9 +8,9 @@ loop-from-preserved c =
     let from = c.loop-from.from in
     let n = c.min-count.result in
     let inverse = rows_of c.args.inverse.now in
-    let exponents = c.args.exponents.now in
-    let slices = buffers_of c.args.slices.now in
-    let recovery = buffers_of c.args.recovery.now in
+    let exponents = c.args.kept.now.exponents.now in
+    let slices = buffers_of c.args.encoder.now.slices.now in
+    let recovery = buffers_of c.args.kept.now.slices.now in
     let old = lists_of c.loop-from.buffers.items in
     let blocks = lists_of c.in_ok-lost.lost.items in
     let new = c.extend.new.buffers in
@@ -25,7 +25,7 @@ loop-from-preserved c =
 
 pub loop-from-init : goal.loop-from-init
 loop-from-init c = record {
-  solved = none_solved c.len.result c.args.exponents.now (rows_of c.args.inverse.now) (buffers_of c.args.slices.now) (buffers_of c.args.recovery.now) (lists_of c.in_ok-buffers.buffers.items)
+  solved = none_solved c.len.result c.args.kept.now.exponents.now (rows_of c.args.inverse.now) (buffers_of c.args.encoder.now.slices.now) (buffers_of c.args.kept.now.slices.now) (lists_of c.in_ok-buffers.buffers.items)
       c.len.ensures c.in_ok-buffers.ensures;
   even = refl;
   within = omega arith;

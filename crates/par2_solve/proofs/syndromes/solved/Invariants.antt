@@ -4,7 +4,7 @@ use Rattle.par2_solve.proofs.syndromes.solved.Given as goal
 
 abbrev pub invariant-loop-from : goal.invariant-loop-from
 invariant-loop-from l = record {
-  solved : AreSolved l.from (rows_of l.inverse) l.exponents (buffers_of l.slices) (buffers_of l.recovery) (lists_of l.buffers.items);
+  solved : AreSolved l.from (rows_of l.inverse) l.kept.exponents.now (buffers_of l.encoder.slices.now) (buffers_of l.kept.slices.now) (lists_of l.buffers.items);
   even : l.from % 2 ≡ 0;
   within : l.from ≤ l.size;
 }

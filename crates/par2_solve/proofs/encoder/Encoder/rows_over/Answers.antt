@@ -1,0 +1,14 @@
+use Rattle.par2_solve.proofs.Common.{length, get_or, ◌∙◌, ap, sym, arith, map_more, take_all, coefficients, range_with_len, all_coefficients}
+use Rattle.par2_solve.proofs.Combinations.{lists_push, range-lt}
+use Rattle.par2_solve.proofs.encoder.Encoder.rows_over.Goals as goal
+
+pub coefficients-requires : goal.coefficients-requires
+coefficients-requires c = λ i. rw (c.deref.ensures.value, c.in_ok-numbers.ensures) (range-lt (length c.args.self.now.slices.now) i 32768 c.args.self.now.few (omega arith))
+
+pub loop-i-preserved : goal.loop-i-preserved
+loop-i-preserved c =
+    lists_push c.loop-i.rows.items c.in_ok-coefficients.field-0 c.in_ok-push.ensures.items c.loop-i.invariant (c.in_ok-coefficients.ensures ∙ ap (λ ns. coefficients ns (get_or c.args.exponents.now c.loop-i.i 0)) (c.deref.ensures.value ∙ c.in_ok-numbers.ensures))
+    ∙ sym (map_more (coefficients (range_with_len 0 (length c.args.self.now.slices.now))) c.args.exponents.now c.loop-i.i 0 c.loop-i-test.true)
+
+pub returns : goal.returns
+returns c = c.loop-i.invariant ∙ ap (all_coefficients (length c.args.self.now.slices.now)) (take_all c.loop-i.i c.args.exponents.now (omega (arith, c.loop-i-test.false)))
