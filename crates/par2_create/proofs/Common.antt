@@ -16,7 +16,7 @@ pub use Rattle.std.specs.Str.{bytes_eq, is_utf8}
 pub use Rattle.std.specs.Vec.Iter.{into_iter_items, into_iter_len}
 pub use Rattle.par2_create.specs.Faults.{duplicate_input, existing, long_name}
 unfoldable pub use Rattle.par2_create.specs.Faults.{files_fault, ids_fault, inputs_fault}
-pub use Rattle.par2_create.specs.Outputs.{HasExponents, HaveExponents, RecordsInputs, inputs_of, volume_names, output_names, packets_between, put_change, volume_at, volume_file, volume_if, volumes_requested, volumes_of}
+pub use Rattle.par2_create.specs.Outputs.{RecordsInputs, inputs_of, volume_names, output_names, packets_between, put_change, volume_at, volume_file, volume_if, volumes_requested, volumes_of}
 pub use Rattle.par2_create.specs.Volumes.{as_file, blank_volume, exponents_in, volume_exponents, length_with, nth_volume, place_in, places_in, places_of, slice_of, volume_with, with_slices}
 pub use Rattle.par2_create.specs.declared.inputs.Input.{Input}
 pub use Rattle.par2_create.specs.declared.names.Volume.{Volume}
@@ -27,7 +27,7 @@ pub use Rattle.par2_packets.specs.Pieces.{ArePieces}
 pub use Rattle.par2_packets.specs.Recoveries.{digested, undigested}
 pub use Rattle.par2_packets.specs.PacketViews.{file_record_of}
 pub use Rattle.par2_packets.specs.declared.record.FileRecord.{FileRecord}
-pub use Rattle.par2_create.specs.Records.{AreRecords, file_of}
+pub use Rattle.par2_create.specs.Records.{AreRecords, input_file}
 pub use Rattle.par2_slices.specs.Positions.{buffers_of}
 pub use Rattle.par2_solve.specs.WrittenSlices.{AreWritten, AreZeros, output_at}
 pub use Rattle.par2_spec.proofs.CreateLaws.{create_applies, names_of_outputs}

@@ -1,5 +1,5 @@
 -- The records of files, one after the other.
-use Rattle.par2_create.proofs.Common.{ℕ, ◌+◌, ◌<◌, ◌≡◌, refl, sym, ap, ap₂, ◌∙◌, subst, List, [], ◌∷◌, ◌++◌, length, get_or, map, take, string_bytes, get_or-map, map_more, map-append, map-map, Folder, File, Input, in_id_order, record_of, file_of, files_of, file_record_of, AreRecords, FileRecord}
+use Rattle.par2_create.proofs.Common.{ℕ, ◌+◌, ◌<◌, ◌≡◌, refl, sym, ap, ap₂, ◌∙◌, subst, List, [], ◌∷◌, ◌++◌, length, get_or, map, take, string_bytes, get_or-map, map_more, map-append, map-map, Folder, File, Input, in_id_order, record_of, input_file, files_of, file_record_of, AreRecords, FileRecord}
 use Rattle.std.specs.Prelude.{IsPermutation}
 use Rattle.std.specs.List.Sorted.{IsStrictlyIncreasing}
 use Rattle.md5.specs.Md5.{md5}
@@ -9,11 +9,11 @@ use Rattle.par2_spec.specs.Volumes as volumes
 use Rattle.par2_spec.proofs.OrderLaws.{rising_records, files_of_ordered}
 
 -- one more record, that of the next input
-pub record_push : (s : ℕ) (inputs : List Input) (i : ℕ) (input : Input) (xs : List FileRecord) (x : FileRecord) → i < length inputs → input ≡ get_or inputs i input → AreRecords s (map file_of (take i inputs)) xs
-    → file_record_of x ≡ record_of s (file_of input) → AreRecords s (map file_of (take (i + 1) inputs)) (xs ++ x ∷ [])
+pub record_push : (s : ℕ) (inputs : List Input) (i : ℕ) (input : Input) (xs : List FileRecord) (x : FileRecord) → i < length inputs → input ≡ get_or inputs i input → AreRecords s (map input_file (take i inputs)) xs
+    → file_record_of x ≡ record_of s (input_file input) → AreRecords s (map input_file (take (i + 1) inputs)) (xs ++ x ∷ [])
 record_push s inputs i input xs x low at so_far is =
-    map-append file_record_of xs (x ∷ []) ∙ ap₂ (λ rs r. rs ++ r ∷ []) so_far (is ∙ ap (λ (z : Input). record_of s (file_of z)) at)
-    ∙ sym (ap (map (record_of s)) (map_more file_of inputs i input low) ∙ map-append (record_of s) (map file_of (take i inputs)) (file_of (get_or inputs i input) ∷ []))
+    map-append file_record_of xs (x ∷ []) ∙ ap₂ (λ rs r. rs ++ r ∷ []) so_far (is ∙ ap (λ (z : Input). record_of s (input_file z)) at)
+    ∙ sym (ap (map (record_of s)) (map_more input_file inputs i input low) ∙ map-append (record_of s) (map input_file (take i inputs)) (input_file (get_or inputs i input) ∷ []))
 
 -- the MD5 of an input
 pub digest_at : (inputs : List Input) (md5s : List (List ℕ)) (i : ℕ) (d : List ℕ) (input : Input) → md5s ≡ map md5 (map (λ (input : Input). input.bytes.now) inputs) → i < length inputs → input ≡ get_or inputs i input

@@ -1,5 +1,5 @@
 -- The first item that passes a test, and its index.
-use Rattle.par2_create.proofs.Common.{◌≡◌, ℕ, ◌+◌, ◌<◌, List, [], ◌∷◌, length, refl, Fault, get_or, take, sym, ap, ap₂, ◌∙◌, Bool, true, false, cond, Some, nat_lt, arith, None, Option, position, option_map, sum_by, ◌==◌, position_or_len, enumerate_from, lt-ltb, le-ltb, position_or_len_is, get_or-enumerate_from, length-enumerate_from, first_fault, fault_where, is_among, map, map-map, slice_count, sum-map, not, ◌&&◌, Folder, File, has, Input, file_of, NoSuchFile, EmptyFile, TooManySlices, files_fault, position-map}
+use Rattle.par2_create.proofs.Common.{◌≡◌, ℕ, ◌+◌, ◌<◌, List, [], ◌∷◌, length, refl, Fault, get_or, take, sym, ap, ap₂, ◌∙◌, Bool, true, false, cond, Some, nat_lt, arith, None, Option, position, option_map, sum_by, ◌==◌, position_or_len, enumerate_from, lt-ltb, le-ltb, position_or_len_is, get_or-enumerate_from, length-enumerate_from, first_fault, fault_where, is_among, map, map-map, slice_count, sum-map, not, ◌&&◌, Folder, File, has, Input, input_file, NoSuchFile, EmptyFile, TooManySlices, files_fault, position-map}
 use Rattle.std.specs.Prelude.{sum}
 use Rattle.std.specs.Bool.{then_some}
 
@@ -43,10 +43,10 @@ too_many_by false fault = refl
 pub files_by : (folder : Folder) (size : ℕ) (inputs : List Input) (absent empty : Option ℕ) (many : Bool)
     → absent ≡ position (λ input. length input.bytes.now == 0 && not (has folder input.name.now)) inputs → empty ≡ position (λ input. length input.bytes.now == 0) inputs
     → many ≡ nat_lt 32768 (sum_by (λ input. slice_count size (length input.bytes.now)) inputs)
-    → first_fault (option_map (λ k. NoSuchFile (1 + k)) absent ∷ option_map (λ k. EmptyFile (1 + k)) empty ∷ fault_where many TooManySlices ∷ []) ≡ files_fault folder size (map file_of inputs)
+    → first_fault (option_map (λ k. NoSuchFile (1 + k)) absent ∷ option_map (λ k. EmptyFile (1 + k)) empty ∷ fault_where many TooManySlices ∷ []) ≡ files_fault folder size (map input_file inputs)
 unfolding files_fault
 files_by folder size inputs absent empty many there filled few =
     let why = λ (a b : Option ℕ) (t : Bool). first_fault (option_map (λ k. NoSuchFile (1 + k)) a ∷ option_map (λ k. EmptyFile (1 + k)) b ∷ fault_where t TooManySlices ∷ []) in
     let count = λ (file : File). slice_count size (length file.1) in
-    ap₂ (λ a b. why a b many) (there ∙ sym (position-map (λ (file : File). length file.1 == 0 && not (has folder file.0)) file_of inputs)) (filled ∙ sym (position-map (λ (file : File). length file.1 == 0) file_of inputs))
-    ∙ ap (why _ _) (few ∙ ap (nat_lt 32768) (sym (sum-map (λ input. count (file_of input)) inputs) ∙ ap sum (sym (map-map count file_of inputs)) ∙ sum-map count (map file_of inputs)))
+    ap₂ (λ a b. why a b many) (there ∙ sym (position-map (λ (file : File). length file.1 == 0 && not (has folder file.0)) input_file inputs)) (filled ∙ sym (position-map (λ (file : File). length file.1 == 0) input_file inputs))
+    ∙ ap (why _ _) (few ∙ ap (nat_lt 32768) (sym (sum-map (λ input. count (input_file input)) inputs) ∙ ap sum (sym (map-map count input_file inputs)) ∙ sum-map count (map input_file inputs)))

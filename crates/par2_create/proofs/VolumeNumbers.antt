@@ -1,5 +1,6 @@
 -- The volumes, one after the other.
-use Rattle.par2_create.proofs.Common.{or_from, lt-ltb, ltb-true, le-ltb, leb-true, where_none, CreateArgs, volume_size, volume_numbers, volumes_before, output_names, HasExponents, HaveExponents, volume_at, volume_if, volumes_of, volume_names, volumes_requested, ◌≡◌, ℕ, ◌+◌, ◌≤◌, ◌<◌, List, [], ◌∷◌, ◌++◌, length, map, sym, ap, ◌∙◌, Bool, true, cond, ◌||◌, Some, arith, None, filter, range_with_len, list_any, map-append, list_any-append, fault_where, NameTooLong, any-map, range-append, map-cond, name_is_short, Volume, long_name, head_fault, nat_lt}
+use Rattle.par2_create.proofs.Common.{or_from, lt-ltb, ltb-true, le-ltb, leb-true, where_none, CreateArgs, volume_size, volume_numbers, volumes_before, output_names, volume_at, volume_if, volumes_of, volume_names, volumes_requested, ◌≡◌, ℕ, ◌+◌, ◌≤◌, ◌<◌, List, [], ◌∷◌, ◌++◌, length, map, sym, ap, ◌∙◌, Bool, true, cond, ◌||◌, Some, arith, None, filter, range_with_len, list_any, map-append, list_any-append, fault_where, NameTooLong, any-map, range-append, map-cond, name_is_short, Volume, long_name, head_fault, nat_lt}
+use Rattle.std.specs.List.{All}
 use Rattle.std.proofs.lemmas.List.Elements.{filter-append, filter_passes, All-map, All-weaker}
 use Rattle.par2_create.proofs.GoodWords.{head_passed}
 use Rattle.par2_create.proofs.VolumeNames.{length-name}
@@ -46,8 +47,8 @@ long_without_base a h =
 
 -- ---- their exponents
 
-pub volumes_end : (base : List ℕ) (f c : ℕ) → f + c ≤ 65536 → HaveExponents (volumes_of base f c)
+pub volumes_end : (base : List ℕ) (f c : ℕ) → f + c ≤ 65536 → All (λ volume. volume.first + volume.count ≤ 65536) (volumes_of base f c)
 volumes_end base f c few =
     let p = λ (i : ℕ). nat_lt (volumes_before i) c in
-    All-map HasExponents (volume_at base f c) (volume_numbers c)
-    (All-weaker (λ i. p i ≡ true) (λ i. HasExponents (volume_at base f c i)) (λ i low. omega (arith, ltb-true (volumes_before i) c low, few)) (volume_numbers c) (filter_passes p (range_with_len 0 17)))
+    All-map (λ (volume : Volume). volume.first + volume.count ≤ 65536) (volume_at base f c) (volume_numbers c)
+    (All-weaker (λ i. p i ≡ true) (λ i. (volume_at base f c i).first + (volume_at base f c i).count ≤ 65536) (λ i low. omega (arith, ltb-true (volumes_before i) c low, few)) (volume_numbers c) (filter_passes p (range_with_len 0 17)))

@@ -1,6 +1,5 @@
 -- The outputs of a create, by parts.
-use Rattle.std.specs.Prelude.{ℕ, ◌≡◌, ◌≤◌, ◌+◌, nat_lt, List, [], ◌∷◌, ◌++◌, map, flat_map, if◌then◌else◌}
-use Rattle.std.specs.List.{All}
+use Rattle.std.specs.Prelude.{ℕ, ◌≡◌, ◌+◌, nat_lt, List, [], ◌∷◌, ◌++◌, map, flat_map, if◌then◌else◌}
 use Rattle.par2_spec.specs.Packets.{Packet, packet}
 use Rattle.par2_spec.specs.Folders.{Folder, File, has}
 use Rattle.par2_spec.specs.Changes.{Change, Write, Replace}
@@ -31,14 +30,6 @@ volumes_of base f c = map (volume_at base f c) (volume_numbers c)
 -- the volumes that a create asks for
 abbrev pub volumes_requested : CreateArgs → List Volume
 volumes_requested a = volumes_of a.base a.first a.count
-
--- the exponents of the volume are among the 65,536 that recovery slices can have
-abbrev pub HasExponents : Volume → Type 0
-HasExponents volume = volume.first + volume.count ≤ 65536
-
--- the exponents of all volumes are
-abbrev pub HaveExponents : List Volume → Type 0
-HaveExponents volumes = All HasExponents volumes
 
 -- the names of the volumes
 abbrev pub volume_names : List Volume → List (List ℕ)
@@ -74,8 +65,8 @@ abbrev pub put_change : Folder → File → Change
 put_change folder file = if has folder file.0 then Replace file.0 file.1 else Write file.0 file.1
 
 -- the changes that write the outputs, the index under the name `base`
-abbrev pub output_changes : List ℕ → Parts → List Volume → List Change
-output_changes base parts volumes =
+abbrev pub output_changes : List ℕ → Parts → List Change
+output_changes base parts =
     let folder = parts.folder.now.files in
     put_change folder (base, parts.index.items)
-    ∷ map (λ volume. put_change folder (volume_file parts volume)) volumes
+    ∷ map (λ volume. put_change folder (volume_file parts volume)) parts.volumes.now

@@ -11,8 +11,8 @@ use Rattle.par2_slices.specs.Positions.{buffers_of}
 use Rattle.par2_create.specs.declared.inputs.Input.{Input}
 
 -- an input as a file
-abbrev pub file_of : Input → File
-file_of input = (input.name.now, input.bytes.now)
+abbrev pub input_file : Input → File
+input_file input = (input.name.now, input.bytes.now)
 
 -- the names of the files, in order
 abbrev pub names_of : List FileRecord → List (List ℕ)

@@ -97,8 +97,9 @@ fn outputs_written(
         set_id,
         set,
         folder,
+        volumes,
     };
-    changes_of(alloc, base, parts, volumes)
+    changes_of(alloc, base, parts)
 }
 
 /// The changes of a create, which write its outputs in order, or why it is refused. It returns `Memory` only if an

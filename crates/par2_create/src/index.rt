@@ -1,5 +1,5 @@
 //! The index file of a set, whose packets each volume repeats.
-ghost use Rattle.std.specs.Prelude.{◌≡◌, ◌≤◌, ◌%◌, ◌^◌, ◌++◌, length, map, flat_map, IfOk, OnOk};
+ghost use Rattle.std.specs.Prelude.{◌≡◌, ◌≤◌, ◌+◌, ◌%◌, ◌^◌, ◌++◌, All, length, map, flat_map, IfOk, OnOk};
 ghost use Rattle.par2_spec.specs.Packets.{packet};
 ghost use Rattle.par2_spec.specs.Volumes as spec;
 ghost use Rattle.par2_spec.specs.Volumes.{packet_of, index_packets, desc_bytes, ifsc_bytes};
@@ -7,26 +7,29 @@ ghost use Rattle.par2_spec.specs.declared.Kind.TheVariants.{FileDesc, Ifsc};
 ghost use Rattle.par2_packets.specs.PacketViews.{file_record_of};
 ghost use Rattle.par2_create.specs.Records.{slices_of_records};
 
+use crate::names::Volume;
 use crate::records::RecoverySet;
 use par2_files::Folder;
 use par2_packets::{FileRecord, append_creator, append_desc, append_ifsc, append_main, main_id};
 use par2_spec::Result;
 use std::alloc::Global;
 
-/// The parts of the outputs: the bytes of the index, the Recovery Set ID, and the set, whose files are in the folder. The
-/// slice size and the number of input slices are ones that PAR2 allows.
+/// The parts of the outputs: the bytes of the index, the Recovery Set ID, the set, whose files are in the folder, and the
+/// volumes. The slice size, the number of input slices and the exponents are ones that PAR2 allows.
 #[derive(Drop)]
 pub struct Parts<'a> {
     pub index: Vec<u8>,
     pub set_id: [u8; 16],
     pub set: &'a RecoverySet,
     pub folder: &'a Folder,
+    pub volumes: &'a [Volume],
     ghost sixteen: { length set_id ≡ 16 },
     ghost positive: { 1 ≤ set.now.slice },
     ghost fours: { set.now.slice % 4 ≡ 0 },
     ghost small: { set.now.slice ≤ 2 ^ 30 },
     ghost few: { let records = set.now.files.items in
         length (slices_of_records folder.now.files set.now.slice records) ≤ 32768 },
+    ghost exponents: { All (λ volume. volume.first + volume.count ≤ 65536) volumes.now },
 }
 
 // Appends the FileDescs of these files, in order. `id` is the Recovery Set ID.

@@ -7,7 +7,7 @@ ghost use Rattle.par2_spec.specs.Folders.{has};
 ghost use Rattle.par2_spec.specs.Volumes.{in_id_order};
 ghost use Rattle.par2_spec.specs.Commands.{files_of};
 ghost use Rattle.par2_slices.specs.Positions.{buffers_of};
-ghost use Rattle.par2_create.specs.Records.{AreRecords, file_of};
+ghost use Rattle.par2_create.specs.Records.{AreRecords, input_file};
 ghost use Rattle.par2_spec.specs.Answers.{FailsFor};
 ghost use Rattle.par2_create.specs.Faults.{duplicate_input, files_fault, ids_fault};
 
@@ -43,7 +43,7 @@ pub fn no_duplicate(alloc: Global, names: &[Name]) -> Result<(), Fault>
 /// The inputs of these names, in order. An absent file has no bytes.
 pub fn inputs_in<'f>(alloc: Global, folder: &'f Folder, names: &'f [Name]) -> Result<Vec<Input<'f>>>
     ensures { IfOk result
-        (λ inputs. map file_of inputs.items ≡ files_of folder.now.files names.now) }
+        (λ inputs. map input_file inputs.items ≡ files_of folder.now.files names.now) }
 {
     let inputs = names.iter().map(|name| Input {
         name,
@@ -99,7 +99,7 @@ fn are_too_many(inputs: &[Input], size: u64) -> bool
 #[tactic(auto, unfolding(crate::specs::Faults::files_fault))]
 pub fn files_fault(folder: &Folder, inputs: &[Input], size: u64) -> Option<Fault>
     requires { 1 ≤ size }
-    ensures { result ≡ files_fault folder.now.files size (map file_of inputs.now) }
+    ensures { result ≡ files_fault folder.now.files size (map input_file inputs.now) }
 {
     if let Some(place) = first_absent(folder, inputs) {
         return Some(Fault::NoSuchFile(place + 1));
@@ -120,11 +120,11 @@ pub fn set_of(
 ) -> Result<RecoverySet, Fault>
     requires size { 1 ≤ size }
     requires md5s { md5s.now ≡ map md5 (map (λ input. input.bytes.now) inputs.now) }
-    ensures refused { FailsFor (ids_fault (map file_of inputs.now)) result }
-    ensures accepted { OnOk result (ids_fault (map file_of inputs.now) ≡ None) }
+    ensures refused { FailsFor (ids_fault (map input_file inputs.now)) result }
+    ensures accepted { OnOk result (ids_fault (map input_file inputs.now) ≡ None) }
     ensures slice { IfOk result (λ set. set.slice ≡ size) }
     ensures files { IfOk result
-        (λ set. AreRecords size (in_id_order (map file_of inputs.now)) set.files.items) }
+        (λ set. AreRecords size (in_id_order (map input_file inputs.now)) set.files.items) }
 {
     let records = file_records(alloc, inputs, md5s, size)?;
     match sorted_by_id(records) {

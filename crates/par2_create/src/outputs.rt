@@ -2,12 +2,11 @@
 //! `volume_files`.
 ghost use Rattle.std.specs.Prelude.{◌≡◌, ◌++◌, map, IfOk, OnOk};
 ghost use Rattle.par2_files.specs.ChangeViews.{change_of};
-ghost use Rattle.par2_create.specs.Outputs.{HaveExponents, put_change, output_changes};
+ghost use Rattle.par2_create.specs.Outputs.{put_change, output_changes};
 ghost use Rattle.par2_create.specs.Volumes.{as_file};
 
 use crate::Changes;
 use crate::index::Parts;
-use crate::names::Volume;
 use crate::volumes::volume_files;
 use par2_files::{Bytes, Change, Folder, Name};
 use par2_spec::Result;
@@ -35,13 +34,11 @@ fn push_files(changes: &mut Changes, folder: &Folder, files: Vec<(Name, Vec<u8>)
     Ok(())
 }
 
-/// The changes that write the outputs: the index under the name `base`, then the volumes in order. `HaveExponents`: the
-/// exponents are ones that PAR2 allows.
-pub fn changes_of(alloc: Global, base: Name, parts: Parts, volumes: &[Volume]) -> Result<Changes>
-    requires { HaveExponents volumes.now }
-    ensures { IfOk result (λ changes. changes ≡ output_changes base parts.entry volumes.now) }
+/// The changes that write the outputs: the index under the name `base`, then the volumes in order.
+pub fn changes_of(alloc: Global, base: Name, parts: Parts) -> Result<Changes>
+    ensures { IfOk result (λ changes. changes ≡ output_changes base parts.entry) }
 {
-    let files = volume_files(alloc, &parts, volumes)?;
+    let files = volume_files(alloc, &parts)?;
     let mut changes = Changes::new(alloc);
     changes.push(put_change(parts.folder, base, parts.index))?;
     push_files(&mut changes, parts.folder, files)?;

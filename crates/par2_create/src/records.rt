@@ -10,7 +10,7 @@ ghost use Rattle.md5.specs.Md5 as hash;
 ghost use Rattle.par2_spec.specs.Folders.{File};
 ghost use Rattle.par2_spec.specs.Volumes.{in_id_order, record_of};
 ghost use Rattle.par2_packets.specs.PacketViews.{record_id_number, file_record_of};
-ghost use Rattle.par2_create.specs.Records.{AreRecords, file_of};
+ghost use Rattle.par2_create.specs.Records.{AreRecords, input_file};
 
 use crate::inputs::Input;
 use md5::{Digest, Md5};
@@ -38,7 +38,7 @@ pub fn file_records(
 ) -> Result<Vec<FileRecord>>
     requires size { 1 ≤ s }
     requires md5s { md5s.now ≡ map md5 (map (λ input. input.bytes.now) inputs.now) }
-    ensures { IfOk result (λ list. AreRecords s (map file_of inputs.now) list.items) }
+    ensures { IfOk result (λ list. AreRecords s (map input_file inputs.now) list.items) }
 {
     let mut records = Vec::with_capacity(alloc, inputs.len())?;
     for i in 0..inputs.len() {

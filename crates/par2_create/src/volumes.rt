@@ -1,10 +1,10 @@
 //! The bytes of volumes. Their packets are laid out first, with zeros for recovery slices and MD5s. The recovery slices
 //! are computed in place, all at once, and the MD5s are filled in at the end.
 
-ghost use Rattle.std.specs.Prelude.{◌≡◌, length, map, IfOk, OnOk};
+ghost use Rattle.std.specs.Prelude.{◌≡◌, ◌≤◌, ◌+◌, length, map, IfOk, OnOk};
 ghost use Rattle.par2_spec.specs.Answers.{Appends};
 ghost use Rattle.par2_spec.specs.Sums.{lists_of};
-ghost use Rattle.par2_create.specs.Outputs.{HasExponents, HaveExponents, volume_file_name};
+ghost use Rattle.par2_create.specs.Outputs.{volume_file_name};
 ghost use Rattle.par2_create.specs.Volumes.{AreFiles, AreBuffers, blank_volume, volume_exponents, length_with, places_in, places_of, with_slices};
 
 use crate::index::Parts;
@@ -31,7 +31,7 @@ fn volume_len(parts: &Parts, count: u32) -> usize {
 
 // The bytes of a volume, the index and then its recovery packets, with zeros for their slices and MD5s.
 fn blank_volume(alloc: Global, parts: &Parts, volume: &Volume) -> Result<Vec<u8>>
-    requires { HasExponents volume.now }
+    requires { volume.now.first + volume.now.count ≤ 65536 }
     ensures { IfOk result (λ bytes. bytes.items ≡ blank_volume parts.now volume.now) }
 {
     let mut bytes = Vec::with_capacity(alloc, volume_len(parts, volume.count))?;
@@ -61,12 +61,11 @@ fn append_places(
 }
 
 // The bytes of all volumes, each in a buffer of its own, with zeros for their recovery slices and MD5s.
-fn blank_volumes(alloc: Global, parts: &Parts, volumes: &[Volume]) -> Result<Vec<Vec<u8>>>
-    requires { HaveExponents volumes.now }
-    ensures { IfOk result (AreBuffers (blank_volume parts.now) volumes.now) }
+fn blank_volumes(alloc: Global, parts: &Parts) -> Result<Vec<Vec<u8>>>
+    ensures { IfOk result (AreBuffers (blank_volume parts.now) parts.now.volumes.now) }
 {
-    let mut buffers = Vec::with_capacity(alloc, volumes.len())?;
-    for volume in volumes {
+    let mut buffers = Vec::with_capacity(alloc, parts.volumes.len())?;
+    for volume in parts.volumes {
         let bytes = blank_volume(alloc, parts, volume)?;
         buffers.push(bytes)?;
     }
@@ -74,43 +73,37 @@ fn blank_volumes(alloc: Global, parts: &Parts, volumes: &[Volume]) -> Result<Vec
 }
 
 // The places of the recovery slices of all volumes, in order. `buffers` has the bytes of the volumes.
-fn places(
-    alloc: Global,
-    parts: &Parts,
-    volumes: &[Volume],
-    buffers: &[Vec<u8>],
-) -> Result<Vec<Place>>
-    requires { lists_of buffers.now ≡ map (blank_volume parts.now) volumes.now }
-    ensures { IfOk result (λ places. places.items ≡ places_of parts.now volumes.now) }
+fn places(alloc: Global, parts: &Parts, buffers: &[Vec<u8>]) -> Result<Vec<Place>>
+    requires { lists_of buffers.now ≡ map (blank_volume parts.now) parts.now.volumes.now }
+    ensures { IfOk result (λ places. places.items ≡ places_of parts.now parts.now.volumes.now) }
 {
     let mut places = Vec::new(alloc);
-    for i in 0..volumes.len() {
-        append_places(&mut places, parts, &volumes[i], i, &buffers[i])?;
+    for i in 0..parts.volumes.len() {
+        append_places(&mut places, parts, &parts.volumes[i], i, &buffers[i])?;
     }
     Ok(places)
 }
 
 // The exponents of all volumes' recovery slices, in order.
-fn exponents_of(alloc: Global, volumes: &[Volume]) -> Result<Vec<u32>>
-    requires { HaveExponents volumes.now }
-    ensures { IfOk result (λ exponents. exponents.items ≡ volume_exponents volumes.now) }
+fn exponents_of(alloc: Global, parts: &Parts) -> Result<Vec<u32>>
+    ensures { IfOk result (λ exponents. exponents.items ≡ volume_exponents parts.now.volumes.now) }
 {
-    volumes
+    parts
+        .volumes
         .iter()
         .flat_map(|volume| volume.first..volume.first + volume.count)
         .collect(alloc)
 }
 
 // Writes the recovery slices of all volumes at their places in `out`, the buffers of the volumes.
-fn write_slices(alloc: Global, parts: &Parts, volumes: &[Volume], out: &mut [Vec<u8>]) -> Result<()>
-    requires exponents { HaveExponents volumes.now }
-    requires before { lists_of out.old ≡ map (blank_volume parts.now) volumes.now }
-    ensures { OnOk result (lists_of out.new ≡ map (with_slices parts.now) volumes.now) }
+fn write_slices(alloc: Global, parts: &Parts, out: &mut [Vec<u8>]) -> Result<()>
+    requires { lists_of out.old ≡ map (blank_volume parts.now) parts.now.volumes.now }
+    ensures { OnOk result (lists_of out.new ≡ map (with_slices parts.now) parts.now.volumes.now) }
 {
     let gf = Gf::new(alloc)?;
     let inputs = input_slices(alloc, &parts.set.files, parts.set.slice, parts.folder)?;
-    let exponents = exponents_of(alloc, volumes)?;
-    let places = places(alloc, parts, volumes, out)?;
+    let exponents = exponents_of(alloc, parts)?;
+    let places = places(alloc, parts, out)?;
     let outputs = Places::new(&places, parts.set.slice as usize / 2);
     write_recovery_slices(alloc, &gf, &inputs, &exponents, out, &outputs)
 }
@@ -128,15 +121,14 @@ fn digest_volume(alloc: Global, bytes: &mut [u8], parts: &Parts, volume: &Volume
 // Takes the buffers of the volumes, fills in the MD5s, and returns the buffers with the names of the volumes.
 fn digested(
     alloc: Global,
-    buffers: &mut Vec<Vec<u8>>,
     parts: &Parts,
-    volumes: &[Volume],
+    buffers: &mut Vec<Vec<u8>>,
 ) -> Result<Vec<(Name, Vec<u8>)>>
-    requires { AreBuffers (with_slices parts.now) volumes.now buffers.old }
-    ensures { IfOk result (AreFiles parts.now volumes.now) }
+    requires { AreBuffers (with_slices parts.now) parts.now.volumes.now buffers.old }
+    ensures { IfOk result (AreFiles parts.now parts.now.volumes.now) }
 {
-    let mut files = Vec::with_capacity(alloc, volumes.len())?;
-    for volume in volumes {
+    let mut files = Vec::with_capacity(alloc, parts.volumes.len())?;
+    for volume in parts.volumes {
         let mut bytes = buffers.remove(0);
         digest_volume(alloc, bytes.as_mut_slice(), parts, volume)?;
         files.push((volume.name.copied(), bytes))?;
@@ -146,18 +138,13 @@ fn digested(
 
 /// The volumes as files, in order: names with bytes. If there are none, no table of the field is made and no input is
 /// read.
-pub(crate) fn volume_files(
-    alloc: Global,
-    parts: &Parts,
-    volumes: &[Volume],
-) -> Result<Vec<(Name, Vec<u8>)>>
-    requires { HaveExponents volumes.now }
-    ensures { IfOk result (AreFiles parts.now volumes.now) }
+pub(crate) fn volume_files(alloc: Global, parts: &Parts) -> Result<Vec<(Name, Vec<u8>)>>
+    ensures { IfOk result (AreFiles parts.now parts.now.volumes.now) }
 {
-    if volumes.is_empty() {
+    if parts.volumes.is_empty() {
         return Ok(Vec::new(alloc));
     }
-    let mut buffers = blank_volumes(alloc, parts, volumes)?;
-    write_slices(alloc, parts, volumes, buffers.as_mut_slice())?;
-    digested(alloc, &mut buffers, parts, volumes)
+    let mut buffers = blank_volumes(alloc, parts)?;
+    write_slices(alloc, parts, buffers.as_mut_slice())?;
+    digested(alloc, parts, &mut buffers)
 }

@@ -1,4 +1,5 @@
-use Rattle.par2_create.proofs.Common.{create_changes, CreateArgs, files_of, flat_map, IfOk, head_fault, inputs_fault, ◌≡◌, List, ◌∙◌, ◌≤◌, ◌%◌, ◌^◌, length, map, sym, ap, ap₂, subst, string_bytes, length-map, Folder, packet, index_packets, main_id, record_of, in_id_order, all_slices, create_args_of, file_record_of, FileRecord, HaveExponents, RecordsInputs, None}
+use Rattle.par2_create.proofs.Common.{create_changes, CreateArgs, files_of, flat_map, IfOk, head_fault, inputs_fault, ◌≡◌, List, ◌∙◌, ◌≤◌, ◌%◌, ◌^◌, length, map, sym, ap, ap₂, subst, string_bytes, length-map, Folder, packet, index_packets, main_id, record_of, in_id_order, all_slices, create_args_of, file_record_of, FileRecord, Volume, ◌+◌, RecordsInputs, None}
+use Rattle.std.specs.List.{All}
 use Rattle.md5.proofs.StandardFacts.{length-md5}
 use Rattle.par2_create.specs.Records.{names_of}
 use Rattle.par2_create.specs.declared.records.RecoverySet.{RecoverySet}
@@ -32,14 +33,9 @@ invariant_of-parts c =
       positive = subst (λ n. 1 ≤ n) (sym slice) head.positive;
       fours = subst (λ n. n % 4 ≡ 0) (sym slice) head.fours;
       small = subst (λ n. n ≤ 2 ^ 30) (sym slice) head.small;
+      exponents = subst (All (λ (volume : Volume). volume.first + volume.count ≤ 65536)) (sym c.requires.volumes) (volumes_end (string_bytes c.args.args.now.base) c.args.args.now.first c.args.args.now.count head.exponents);
       few = subst (λ n. n ≤ 32768) (sym (ap₂ (λ n files. length (all_slices n files)) slice order)) (few_slices folder s inputs are);
     }
-
-pub changes_of-requires : goal.changes_of-requires
-changes_of-requires c =
-    let head : IsHead (create_args_of c.args.args.now) = head_passed _ c.requires.head in
-    subst HaveExponents (sym c.requires.volumes)
-    (volumes_end (string_bytes c.args.args.now.base) c.args.args.now.first c.args.args.now.count head.exponents)
 
 pub returns : goal.returns
 returns c =

@@ -1,4 +1,4 @@
-use Rattle.par2_create.proofs.Common.{rules, List, ℕ, bytes_of, file_of, YieldsList-from_slice}
+use Rattle.par2_create.proofs.Common.{rules, List, ℕ, bytes_of, input_file, YieldsList-from_slice}
 use Rattle.std.proofs.lemmas.Iterator.{YieldsList-from_map_by}
 use Rattle.std.proofs.lemmas.Iterator.Consumers.{map_from_collect}
 use Rattle.par2_create.proofs.inputs.inputs_in.Goals as goal
@@ -6,4 +6,4 @@ use Rattle.par2_create.proofs.inputs.inputs_in.Goals as goal
 pub returns : goal.returns
 returns c =
     map_from_collect _ c.collect.ensures.ran
-    (YieldsList-from_map_by _ file_of (λ (name : List ℕ). (name, bytes_of c.args.folder.now.files name)) (YieldsList-from_slice c.args.names.now (cc)) c.map-inputs.ensures.closure (λ x r q k. search rules))
+    (YieldsList-from_map_by _ input_file (λ (name : List ℕ). (name, bytes_of c.args.folder.now.files name)) (YieldsList-from_slice c.args.names.now (cc)) c.map-inputs.ensures.closure (λ x r q k. search rules))

@@ -7,4 +7,4 @@ returns c =
     let files = c.in_ok-files.files.items in
     let first : c.push.new.self ≡ put (c.args.base, c.args.parts.index.items) ∷ [] = c.in_ok-push.ensures.ok ∙ ap₂ (λ (cs : List Change) x. cs ++ x ∷ []) c.new-changes.ensures c.put_change.ensures in
     c.in_ok-push_files.ensures
-    ∙ ap₂ (λ (cs added : List Change). cs ++ added) first (sym (map-map put as_file files) ∙ ap (map put) c.in_ok-files.ensures ∙ map-map put (volume_file c.args.parts) c.args.volumes.now)
+    ∙ ap₂ (λ (cs added : List Change). cs ++ added) first (sym (map-map put as_file files) ∙ ap (map put) c.in_ok-files.ensures ∙ map-map put (volume_file c.args.parts) c.args.parts.volumes.now)

@@ -8,13 +8,13 @@ loop-volume-init c = record { done = ap (map as_file) c.in_ok-files.ensures.item
 
 pub remove-bytes-requires : goal.remove-bytes-requires
 remove-bytes-requires c =
-    let some = some_left (with_slices c.args.parts.now) c.args.volumes.now c.loop-volume.volume-index c.loop-volume.buffers.items c.loop-volume-test.true c.loop-volume.invariant.left in
+    let some = some_left (with_slices c.args.parts.now) c.args.parts.now.volumes.now c.loop-volume.volume-index c.loop-volume.buffers.items c.loop-volume-test.true c.loop-volume.invariant.left in
     search (rules, some)
 
 pub loop-volume-preserved : goal.loop-volume-preserved
 loop-volume-preserved c =
     let parts = c.args.parts.now in
-    let volumes : List Volume = c.args.volumes.now in
+    let volumes : List Volume = c.args.parts.now.volumes.now in
     let volume : Volume = c.volume-item.result in
     let i = c.loop-volume.volume-index in
     let low = c.loop-volume-test.true in
@@ -33,7 +33,7 @@ loop-volume-preserved c =
 pub digest_volume-requires : goal.digest_volume-requires
 digest_volume-requires c =
     c.as_mut_slice.ensures.value
-    ∙ (taken (with_slices c.args.parts.now) c.args.volumes.now c.loop-volume.volume-index c.volume-item.result c.loop-volume.buffers.items c.remove-bytes.result c.loop-volume-test.true c.volume-item.is c.loop-volume.invariant.left c.remove-bytes.ensures.value).0
+    ∙ (taken (with_slices c.args.parts.now) c.args.parts.now.volumes.now c.loop-volume.volume-index c.volume-item.result c.loop-volume.buffers.items c.remove-bytes.result c.loop-volume-test.true c.volume-item.is c.loop-volume.invariant.left c.remove-bytes.ensures.value).0
 
 pub returns : goal.returns
-returns c = c.loop-volume.invariant.done ∙ ap (map (volume_file c.args.parts.now)) (take_all c.loop-volume.volume-index c.args.volumes.now c.loop-volume-test.false)
+returns c = c.loop-volume.invariant.done ∙ ap (map (volume_file c.args.parts.now)) (take_all c.loop-volume.volume-index c.args.parts.now.volumes.now c.loop-volume-test.false)

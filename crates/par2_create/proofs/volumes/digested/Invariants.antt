@@ -3,6 +3,6 @@ use Rattle.par2_create.proofs.volumes.digested.Given as goal
 
 abbrev pub invariant-loop-volume : goal.invariant-loop-volume
 invariant-loop-volume l = record {
-  done : map as_file l.files.items ≡ map (volume_file l.parts) (take l.volume-index l.volumes);
-  left : lists_of l.buffers.items ≡ map (with_slices l.parts) (drop l.volume-index l.volumes);
+  done : map as_file l.files.items ≡ map (volume_file l.parts) (take l.volume-index l.parts.volumes.now);
+  left : lists_of l.buffers.items ≡ map (with_slices l.parts) (drop l.volume-index l.parts.volumes.now);
 }

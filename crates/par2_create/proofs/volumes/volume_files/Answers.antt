@@ -1,8 +1,8 @@
 use Rattle.par2_create.proofs.Common.{◌≡◌, ◌∙◌, List, ℕ, Vec, Global, length, ap, rules, with_items_is, lists_of}
 use Rattle.par2_create.proofs.volumes.volume_files.Goals as goal
 
-pub write_slices-requires-clause-before : goal.write_slices-requires-clause-before
-write_slices-requires-clause-before c = ap (λ (buffers : List (Vec ℕ Global)). lists_of buffers) c.as_mut_slice.ensures.value ∙ c.in_ok-buffers.ensures
+pub write_slices-requires : goal.write_slices-requires
+write_slices-requires c = ap (λ (buffers : List (Vec ℕ Global)). lists_of buffers) c.as_mut_slice.ensures.value ∙ c.in_ok-buffers.ensures
 
 pub digested-requires : goal.digested-requires
 digested-requires c =

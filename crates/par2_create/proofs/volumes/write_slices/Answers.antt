@@ -13,7 +13,7 @@ of_files parts files same = ap (slices_of_records parts.folder.now.files parts.s
 pub new-outputs-requires : goal.new-outputs-requires
 new-outputs-requires c =
     let parts = c.args.parts.now in
-    record { apart = rw (c.deref-2.ensures.value, c.in_ok-places.ensures) (places_apart parts (parts.set.now.slice / 2) c.args.volumes.now (omega (arith, c.args.parts.now.fours))) }
+    record { apart = rw (c.deref-2.ensures.value, c.in_ok-places.ensures) (places_apart parts (parts.set.now.slice / 2) c.args.parts.now.volumes.now (omega (arith, c.args.parts.now.fours))) }
 
 pub write_recovery_slices-requires-clause-slices : goal.write_recovery_slices-requires-clause-slices
 write_recovery_slices-requires-clause-slices c =
@@ -24,20 +24,20 @@ write_recovery_slices-requires-clause-slices c =
 
 pub write_recovery_slices-requires-clause-count : goal.write_recovery_slices-requires-clause-count
 write_recovery_slices-requires-clause-count c =
-    ap length (c.deref-4.ensures.value ∙ c.in_ok-exponents.ensures) ∙ length-places c.args.parts.now c.args.volumes.now
+    ap length (c.deref-4.ensures.value ∙ c.in_ok-exponents.ensures) ∙ length-places c.args.parts.now c.args.parts.now.volumes.now
     ∙ sym (ap (λ (all : List Place). length all) (c.new-outputs.ensures.places ∙ c.deref-2.ensures.value ∙ c.in_ok-places.ensures))
 
 pub write_recovery_slices-requires-clause-room : goal.write_recovery_slices-requires-clause-room
 write_recovery_slices-requires-clause-room c =
     let size : 2 * c.new-outputs.result.words ≡ c.args.parts.now.set.now.slice = omega (arith, c.args.parts.now.fours) in
     rw (c.new-outputs.ensures.places, c.deref-2.ensures.value, c.in_ok-places.ensures)
-    (places_within c.args.parts.now c.new-outputs.result.words c.args.volumes.now (lists_of c.args.out.now) size c.requires.before)
+    (places_within c.args.parts.now c.new-outputs.result.words c.args.parts.now.volumes.now (lists_of c.args.out.now) size c.requires)
 
 pub write_recovery_slices-requires-clause-zeros : goal.write_recovery_slices-requires-clause-zeros
 write_recovery_slices-requires-clause-zeros c =
     let size : 2 * c.new-outputs.result.words ≡ c.args.parts.now.set.now.slice = omega (arith, c.args.parts.now.fours) in
     rw (c.new-outputs.ensures.places, c.deref-2.ensures.value, c.in_ok-places.ensures)
-    (places_blank c.args.parts.now c.new-outputs.result.words c.args.volumes.now (lists_of c.args.out.now) size c.requires.before)
+    (places_blank c.args.parts.now c.new-outputs.result.words c.args.parts.now.volumes.now (lists_of c.args.out.now) size c.requires)
 
 pub returns : goal.returns
 returns c =
@@ -48,8 +48,8 @@ returns c =
     let old = lists_of c.args.out.now in
     let new = lists_of c.write_recovery_slices.new.buffers in
     on_ok_weaker c.write_recovery_slices.result
-    (λ written. volumes_written c.args.parts.now words c.args.volumes.now slices exponents old new (omega (arith, c.args.parts.now.fours))
+    (λ written. volumes_written c.args.parts.now words c.args.parts.now.volumes.now slices exponents old new (omega (arith, c.args.parts.now.fours))
     (ap (λ (buffers : List (Bor (List ℕ))). map pad (buffers_of buffers)) c.deref-3.ensures.value ∙ c.in_ok-inputs.ensures ∙ of_files c.args.parts.now c.deref.result.now c.deref.ensures.value)
-    (c.deref-4.ensures.value ∙ c.in_ok-exponents.ensures) c.requires.before
+    (c.deref-4.ensures.value ∙ c.in_ok-exponents.ensures) c.requires
     (subst (λ (all : List Place). AreWritten words slices exponents all old new) (c.new-outputs.ensures.places ∙ c.deref-2.ensures.value ∙ c.in_ok-places.ensures) written))
     c.write_recovery_slices.ensures
