@@ -10,20 +10,18 @@ pub use Rattle.std.proofs.lemmas.List.Elements.{All-head, All-tail, filter-appen
 pub use Rattle.std.proofs.lemmas.List.Folds.{concat-append, list_all-map}
 pub use Rattle.std.proofs.lemmas.Option.{MatchOption-at_some, slice_get-get_or}
 pub use Rattle.std.proofs.lemmas.Result.{IfOk-weaker, err_from_is_err_and, on_ok_weaker}
-pub use Rattle.std.proofs.lemmas.Simd.{map-map, splat_is_map}
+pub use Rattle.std.proofs.lemmas.Simd.{map-map}
 pub use Rattle.std.proofs.lemmas.Slice.Eq.{bytes_eq-Decides, slice_eq-Decides}
-pub use Rattle.std.proofs.lemmas.Slice.Zip.{AllZip-long, Zip-more, either_empty_from_Zip}
+pub use Rattle.std.proofs.lemmas.Slice.Zip.{AllZip-long}
 pub use Rattle.std.specs.BTreeMap.{BTreeMap, is_at}
 pub use Rattle.std.specs.BTreeSet.{BTreeSet, IsFromIterResult, contains}
 pub use Rattle.std.specs.Cmp.Lexicographic.{nat_list_cmp_total, slice_cmp}
 pub use Rattle.std.specs.FinMap.{entries}
-pub use Rattle.std.specs.Iterator.Adapters.{zip_first, zip_second}
 pub use Rattle.std.specs.List.{AllByRecursion, IsDistinct, concat, cons_option, enumerate_from, list_all, list_any, position_from, range_with_len}
 pub use Rattle.std.specs.List.Sorted.{IsStrictlyIncreasing}
 pub use Rattle.std.specs.Option.{option_and_then}
 pub use Rattle.std.specs.Ordering.{eq_by_cmp, nat_cmp}
-pub use Rattle.std.specs.Prelude.{IfErr, IfOk, IfSome, None, OnOk, Option, Result, Some, String, filter, filter_map, flat_map, is_none, is_ok, is_some, ok_or, option_map, position, replicate, slice_get, slice_index_or, vec_len, zip}
-pub use Rattle.std.specs.Slice.Iter.{iter_rest}
+pub use Rattle.std.specs.Prelude.{IfErr, IfOk, IfSome, None, OnOk, Option, Result, Some, String, filter, filter_map, flat_map, is_none, is_ok, is_some, ok_or, option_map, position, replicate, slice_get, vec_len, zip}
 pub use Rattle.std.specs.Str.{bytes_eq}
 pub use Rattle.std.specs.Vec.Iter.{into_iter_items, into_iter_len}
 pub use Rattle.par2_files.specs.ChangeViews.{change_of}
@@ -44,7 +42,7 @@ pub use Rattle.par2_spec.proofs.AcceptedCommands.{command_leads, in_full, in_par
 pub use Rattle.par2_spec.proofs.FoundLaws.{all-filter, targets_found}
 pub use Rattle.par2_spec.proofs.ListsLaws.{all-append, all-each, all_at, all_below_are, filter-map, found_one, map-cond}
 pub use Rattle.par2_spec.proofs.NamesLaws.{AreDistinct, among-filter, among_some, clash, distinct-filter, distinct_from_std, itself, same_either_way, std_from_distinct}
-pub use Rattle.par2_spec.proofs.PassedAnswers.{answered_so, err_passed, never_found, not_passed, passed, refused_by}
+pub use Rattle.par2_spec.proofs.PassedAnswers.{answered_so, err_passed, never_found, passed, refused_by}
 pub use Rattle.par2_spec.proofs.ReadLaws.{lost_of, present_searched, size_positive, sized_from_counted, sound_of}
 pub use Rattle.par2_spec.proofs.SessionLaws.{ok_no_err, same_ok}
 pub use Rattle.par2_spec.proofs.TestLaws.{err_again, no_place}
@@ -64,7 +62,7 @@ pub use Rattle.par2_spec.specs.Refusals.{absent_file, after, by_set, purge_refus
 unfoldable pub use Rattle.par2_spec.specs.Refusals.{early_refusal, refusal, repair_refusal}
 pub use Rattle.par2_spec.specs.Repairs.{AreFew, aside, cut_into, files_of_slices, is_par_file, names_without_match, par_files, put_aside, rebuilt}
 unfoldable pub use Rattle.par2_spec.specs.Repairs.{rebuilt_targets}
-pub use Rattle.par2_spec.specs.Reports.{Complete, IsVerdictIn, Report, State, TargetReport, is_complete, incomplete_state, states_by, verdict_of}
+pub use Rattle.par2_spec.specs.Reports.{Complete, IsVerdictIn, Report, TargetReport, is_complete, incomplete_state, verdict_of}
 unfoldable pub use Rattle.par2_spec.specs.Reports.{report_in, report_of, report_of_target}
 pub use Rattle.par2_spec.specs.Search.{candidates, intact_names, is_incomplete, lost, matching, incomplete, incomplete_names, survivors}
 unfoldable pub use Rattle.par2_spec.specs.Search.{known, matches}

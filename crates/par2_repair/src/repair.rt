@@ -1,6 +1,6 @@
 //! The changes of a repair. `draft_repair` reads the set, finds the matches, rebuilds the targets without one, and
 //! lists the changes. `plan_repair` also checks the MD5s of the files that they write.
-ghost use Rattle.std.specs.Prelude.{◌≡◌, ℕ, List, map, string_bytes, IsTrue, IfOk, OnOk};
+ghost use Rattle.std.specs.Prelude.{◌≡◌, ◌⊎◌, ℕ, List, map, string_bytes, IsTrue, IfErr, IfOk, OnOk};
 ghost use Rattle.par2_spec.specs.Changes.{are_applicable, effects};
 ghost use Rattle.par2_spec.specs.Plans.{AreFewFor};
 ghost use Rattle.par2_spec.specs.Refusals.{repair_refusal};
@@ -13,7 +13,7 @@ ghost use Rattle.par2_sets.specs.SetReading.{own_files};
 ghost use Rattle.par2_spec.specs.Folders.{Folder as Files};
 ghost use Rattle.par2_spec.specs.Answers.{FailsFor, Lists};
 ghost use Rattle.par2_spec.specs.Planned.{FailsAs, GivesChanges, LeadsAs, RefusesEarly, SucceedsAs, repair_of};
-ghost use Rattle.par2_repair.specs.Drafts.{IsDraft, IsDraftBy};
+ghost use Rattle.par2_repair.specs.Drafts.{HasItsMd5s, IsDraft, IsDraftBy};
 ghost use Rattle.par2_repair.specs.Repairing.{IsWholeWhereMatched, AreMoves, AreRestored, known_by, repair_by, WritesAsDescribed};
 
 use crate::candidates::candidates;
@@ -136,30 +136,13 @@ pub fn draft_repair(
     draft_with(alloc, folder, &reading, &candidates, &incomplete, purge)
 }
 
-// `plan_repair` without the clauses that follow from laws: it drafts the repair, computes the MD5s of the written files
-// and returns the changes if they are the described ones.
-fn tested_changes(
-    alloc: Global,
-    folder: &Folder,
-    base: &str,
-    extras: &[String],
-    purge: bool,
-) -> Result<Changes, Fault>
-    // It is refused as the definitions say, or memory ran out; early refusals need no memory.
-    ensures refused { FailsAs folder.now.files (repair_of base.now extras.now purge) result }
-    ensures accepted { SucceedsAs folder.now.files (repair_of base.now extras.now purge) result }
-    ensures early { RefusesEarly folder.now.files (repair_of base.now extras.now purge) result }
-    // The changes are those of the definitions. They apply in order and lead to their folder.
-    ensures changes { GivesChanges folder.now.files (repair_of base.now extras.now purge) result }
-    ensures applies { IfOk result (λ changes. IsTrue (are_applicable folder.now.files changes)) }
-    ensures leads { LeadsAs folder.now.files (repair_of base.now extras.now purge) result }
-    // Each file that is written from slices has the described length and MD5, whatever the folder's
-    // files hold. The folder has few enough names to number the asides.
-    ensures written { let words = map string_bytes extras.now in
-        OnOk result (WritesAsDescribed folder.now.files base.now words) }
-    ensures few { OnOk result (AreFewFor folder.now.files (repair_of base.now extras.now purge)) }
+// The changes of a draft, if the written files have the MD5s that the set describes (`HasItsMd5s`).
+fn tested(alloc: Global, draft: Draft) -> Result<Changes, Fault>
+    ensures changes { IfOk result (λ changes. changes ≡ draft.changes) }
+    ensures right { OnOk result (HasItsMd5s draft) }
+    ensures wrong { IfErr result (λ fault. (fault ≡ Fault.Memory) ⊎ ((¬ (HasItsMd5s draft))
+        × (fault ≡ Fault.RepairFailed))) }
 {
-    let draft = draft_repair(alloc, folder, base, extras, purge)?;
     let md5s = buffer_digests(alloc, &draft.buffers(alloc)?)?;
     draft.tested(&md5s)
 }
@@ -198,5 +181,6 @@ pub fn plan_repair(
 {
     repair_restores_the_files();
     repair_restores_the_inputs();
-    tested_changes(alloc, folder, base, extras, purge)
+    let draft = draft_repair(alloc, folder, base, extras, purge)?;
+    tested(alloc, draft)
 }

@@ -22,7 +22,7 @@ use par2_files::{Folder, Name};
 use par2_gf16::Gf;
 use par2_sets::{ParSet, Target};
 use par2_slices::Pair;
-use par2_solve::{rank, rank_by_runs};
+use par2_solve::{rank_by_equations, rank_by_runs};
 use par2_spec::{Result, Verdict};
 use std::alloc::Global;
 use std::collections::BTreeSet;
@@ -180,7 +180,7 @@ fn rank_of(alloc: Global, set: &ParSet, lost: &[u32]) -> Result<usize>
     let exponents = exponents(alloc, set.recovery())?;
     match rank_by_runs(lost, &exponents) {
         Some(rank) => Ok(rank),
-        None => rank(alloc, &Gf::new(alloc)?, lost, &exponents),
+        None => rank_by_equations(alloc, &Gf::new(alloc)?, lost, &exponents),
     }
 }
 

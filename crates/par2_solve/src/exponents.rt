@@ -144,9 +144,9 @@ fn rank_by_elimination(alloc: Global, gf: &Gf, lost: &[u32], exponents: &[u32]) 
     Ok(system.rank())
 }
 
-// The rank by equations: those of the holes between the first exponents if these settle it, otherwise those of all
-// exponents.
-fn rank_by_equations(alloc: Global, gf: &Gf, lost: &[u32], exponents: &[u32]) -> Result<usize>
+/// The rank by equations: those of the holes between the first exponents if these settle it, otherwise those of all
+/// exponents. A caller that has the field's tables calls `rank`, which asks `rank_by_runs` first.
+pub fn rank_by_equations(alloc: Global, gf: &Gf, lost: &[u32], exponents: &[u32]) -> Result<usize>
     requires lost { (i : ℕ) → slice_index lost.now i < 32768 }
     requires exponents { IsStrictlyIncreasing exponents.now }
     ensures { IfOk result (λ n. n ≡ rank lost.now exponents.now) }

@@ -21,6 +21,6 @@ mod spans;
 mod syndromes;
 
 pub use additions::numbers_from;
-pub use exponents::{rank, rank_by_runs};
+pub use exponents::{rank, rank_by_equations, rank_by_runs};
 pub use rebuild_slices::{RebuildFault, Survivors, rebuild, rebuild_lost};
 pub use recovery::{blank, write_recovery_slices};

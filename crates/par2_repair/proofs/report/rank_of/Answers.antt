@@ -15,8 +15,8 @@ returns-in-Some c =
     c.deref.ensures.value ∙ c.in_ok-exponents.ensures ∙ sym (map-map (λ (r : ℕ × List ℕ). r.0) entry_of rs) ∙ ap (map (λ (r : ℕ × List ℕ). r.0)) c.recovery.ensures.value in
     MatchOption-at_some _ (λ n. n ≡ rank c.args.lost.now c.deref.result.now) c.in-Some.rank c.in-Some.is c.rank_by_runs.ensures ∙ ap (rank c.args.lost.now) are
 
-pub rank-requires-clause-exponents : goal.rank-requires-clause-exponents
-rank-requires-clause-exponents c =
+pub rank_by_equations-requires-clause-exponents : goal.rank_by_equations-requires-clause-exponents
+rank_by_equations-requires-clause-exponents c =
     let rs = c.recovery.result.now in
     subst IsStrictlyIncreasing (map-map (λ (r : ℕ × List ℕ). r.0) entry_of rs ∙ sym c.in_ok-exponents.ensures ∙ sym c.deref-in-None.ensures.value) c.recovery.ensures.rising
 
@@ -26,4 +26,4 @@ returns c =
     let set = c.args.set.now in
     let are : c.deref-in-None.result.now ≡ survivors set =
     c.deref-in-None.ensures.value ∙ c.in_ok-exponents.ensures ∙ sym (map-map (λ (r : ℕ × List ℕ). r.0) entry_of rs) ∙ ap (map (λ (r : ℕ × List ℕ). r.0)) c.recovery.ensures.value in
-    IfOk-weaker c.rank.result _ _ (λ n e. e ∙ ap (rank c.args.lost.now) are) c.rank.ensures.rank
+    IfOk-weaker c.rank_by_equations.result _ _ (λ n e. e ∙ ap (rank c.args.lost.now) are) c.rank_by_equations.ensures
