@@ -77,8 +77,3 @@ returns-in_ok-session-in-Halfway-clause-opens g c honest read =
     }
 
 -- nothing is done to the store
-pub returns-in-Settled-clause-opens : goal.returns-in-Settled-clause-opens
-returns-in-Settled-clause-opens g c honest read = stays_opens g.S.Store c.args.store.now _ tt
-
-pub returns-in-Settled-clause-keeps : goal.returns-in-Settled-clause-keeps
-returns-in-Settled-clause-keeps g c = stays_keeps g.S.Store c.args.store.now _ tt

@@ -1,4 +1,4 @@
-use Rattle.par2_tool.proofs.Common.{inl, ◌≡◌, ◌+◌, List, length, refl, sym, ap, subst, ◌∙◌, map, arith, le_refl, le-add_right, take, ℕ, IsVerify, HoldsJournaled, AreAtMost, after_write_down, IsStoppedAt, IsWritten, calls_requested, FingerprintsDifferAlong, OpensAsBeforeOrAfter, calls_before, length-map, Verify, LeadsToAfterRequested, session_of_kept, session_after, changes_requested, Contents, action_of, command_of, report_view, MayRefuse, Plan, Two, AreSpelled, change_of, changes_by_kind, after_commit, journals_of, ok_no_err, early_refusal_of, IfOk, effects}
+use Rattle.par2_tool.proofs.Common.{◌≡◌, ◌+◌, List, length, refl, sym, ap, subst, ◌∙◌, map, take, ℕ, IsVerify, HoldsJournaled, AreAtMost, after_write_down, IsStoppedAt, IsWritten, calls_requested, FingerprintsDifferAlong, OpensAsBeforeOrAfter, calls_before, length-map, Verify, LeadsToAfterRequested, session_of_kept, session_after, changes_requested, Contents, action_of, command_of, report_view, MayRefuse, Plan, Two, AreSpelled, change_of, changes_by_kind, after_commit, journals_of, ok_no_err, early_refusal_of, IfOk, effects}
 use Rattle.par2_spec.specs.Changes as defined
 use Rattle.par2_spec.specs.declared.commands.Command.{Command}
 use Rattle.par2_spec.proofs.AcceptedCommands.{command_leads}
@@ -42,71 +42,6 @@ returns-in_err-journals-clause-in_order g c honest =
     any_err c.from_residual.result (IfOk requested (λ changes. (n : ℕ) × (files ≡ effects files (take n changes)))) (none_made files requested)
 
 -- ---- the store is left alone
-
-pub returns-in-Ok-clause-cut : goal.returns-in-Ok-clause-cut
-returns-in-Ok-clause-cut g c honest durable files apart left may = inl (durable left may)
-
-pub returns-in-Ok-clause-possible : goal.returns-in-Ok-clause-possible
-returns-in-Ok-clause-possible g c honest files = refl {a = g.S.Store.impossible c.args.store.now}
-
-pub returns-in-Err-clause-cut : goal.returns-in-Err-clause-cut
-returns-in-Err-clause-cut g c honest durable files apart left may = inl (durable left may)
-
-pub returns-in-Err-clause-possible : goal.returns-in-Err-clause-possible
-returns-in-Err-clause-possible g c honest files = refl {a = g.S.Store.impossible c.args.store.now}
-
-pub returns-in-Err-prepare-clause-cut : goal.returns-in-Err-prepare-clause-cut
-returns-in-Err-prepare-clause-cut g c honest durable files apart left may = inl (durable left may)
-
-pub returns-in-Err-prepare-clause-possible : goal.returns-in-Err-prepare-clause-possible
-returns-in-Err-prepare-clause-possible g c honest files = refl {a = g.S.Store.impossible c.args.store.now}
-
-pub returns-in_err-journals-clause-cut : goal.returns-in_err-journals-clause-cut
-returns-in_err-journals-clause-cut g c honest durable files apart left may = inl (durable left may)
-
-pub returns-in_err-journals-clause-possible : goal.returns-in_err-journals-clause-possible
-returns-in_err-journals-clause-possible g c honest files = refl {a = g.S.Store.impossible c.args.store.now}
-
-pub returns-in-Err-clause-stopped : goal.returns-in-Err-clause-stopped
-returns-in-Err-clause-stopped g c honest files apart = inl (refl {a = g.S.Store.contents c.args.store.now})
-
-pub returns-in-Err-prepare-clause-stopped : goal.returns-in-Err-prepare-clause-stopped
-returns-in-Err-prepare-clause-stopped g c honest files apart = inl (refl {a = g.S.Store.contents c.args.store.now})
-
-pub returns-in_err-journals-clause-stopped : goal.returns-in_err-journals-clause-stopped
-returns-in_err-journals-clause-stopped g c honest files apart =
-    let start = g.S.Store.contents c.args.store.now in
-    any_err c.from_residual.result (OpensAsBeforeOrAfter (session_of_kept c.args.session.now) (command_of c.args.command.now) start start) (inl refl)
-
-pub returns-in-Ok-clause-later : goal.returns-in-Ok-clause-later
-returns-in-Ok-clause-later g c = le_refl (g.S.Store.failures c.args.store.now)
-
-pub returns-in-Ok-clause-at_most : goal.returns-in-Ok-clause-at_most
-returns-in-Ok-clause-at_most g c = record { later = le_refl (g.S.Store.writing_calls c.args.store.now); within = le-add_right (g.S.Store.writing_calls c.args.store.now) _ }
-
-pub returns-in-Err-clause-later : goal.returns-in-Err-clause-later
-returns-in-Err-clause-later g c = le_refl (g.S.Store.failures c.args.store.now)
-
-pub returns-in-Err-clause-at_most : goal.returns-in-Err-clause-at_most
-returns-in-Err-clause-at_most g c = record { later = le_refl (g.S.Store.writing_calls c.args.store.now); within = le-add_right (g.S.Store.writing_calls c.args.store.now) _ }
-
-pub returns-in-Err-prepare-clause-later : goal.returns-in-Err-prepare-clause-later
-returns-in-Err-prepare-clause-later g c = le_refl (g.S.Store.failures c.args.store.now)
-
-pub returns-in-Err-prepare-clause-at_most : goal.returns-in-Err-prepare-clause-at_most
-returns-in-Err-prepare-clause-at_most g c = record { later = le_refl (g.S.Store.writing_calls c.args.store.now); within = le-add_right (g.S.Store.writing_calls c.args.store.now) _ }
-
-pub returns-in_err-journals-clause-later : goal.returns-in_err-journals-clause-later
-returns-in_err-journals-clause-later g c = le_refl (g.S.Store.failures c.args.store.now)
-
-pub returns-in_err-journals-clause-at_most : goal.returns-in_err-journals-clause-at_most
-returns-in_err-journals-clause-at_most g c = record { later = le_refl (g.S.Store.writing_calls c.args.store.now); within = le-add_right (g.S.Store.writing_calls c.args.store.now) _ }
-
-pub returns-in-Ok-write_down-clause-later : goal.returns-in-Ok-write_down-clause-later
-returns-in-Ok-write_down-clause-later g c = c.write_down.ensures.failures.later
-
-pub returns-in-Err-write_down-clause-later : goal.returns-in-Err-write_down-clause-later
-returns-in-Err-write_down-clause-later g c = c.write_down.ensures.failures.later
 
 -- ---- no action is a verify
 
@@ -214,11 +149,6 @@ pub returns-in-Err-write_down-clause-cut : goal.returns-in-Err-write_down-clause
 returns-in-Err-write_down-clause-cut g c honest durable files apart left may = opens_so g (goal.at.returns-in-Err-write_down-clause-cut g c).After-write_down files apart left (c.write_down.ensures.written.remains honest durable left may)
 
 -- ---- the writing calls
-
-pub returns-in-Ok-clause-calls : goal.returns-in-Ok-clause-calls
-returns-in-Ok-clause-calls g c =
-    let made = g.S.Store.writing_calls c.args.store.now in
-    subst (λ (x : Command). made ≡ made + calls_requested (session_of_kept c.args.session.now) (command_of x)) (sym c.in-Verify.is) (omega arith)
 
 calls_so : (g : _) (c : After-write_down g) → calls_before c.in_ok-journals.journals.halfway + (length c.changes.result.now + 1) ≡ calls_requested (session_of_kept c.args.session.now) (command_of c.args.command.now)
 calls_so g c =

@@ -97,12 +97,6 @@ returns-clause-failed g c =
 
 -- ---- the store stays honest, and the count of failures only grows
 
-pub returns-in-Ok-perform-clause-honest : goal.returns-in-Ok-perform-clause-honest
-returns-in-Ok-perform-clause-honest g c honest = c.perform.ensures.honest (c.in-Ok.ensures.keeps.honest honest)
-
-pub returns-clause-honest : goal.returns-clause-honest
-returns-clause-honest g c honest = c.perform.ensures.honest (c.in-Ok.ensures.keeps.honest honest)
-
 pub returns-in-Ok-perform-clause-later : goal.returns-in-Ok-perform-clause-later
 returns-in-Ok-perform-clause-later g c = le_trans c.in-Ok.ensures.keeps.later c.in-Ok-perform.ensures.later
 
@@ -141,12 +135,6 @@ pub returns-clause-cut : goal.returns-clause-cut
 returns-clause-cut g c = command_cut g (goal.at.returns-clause-cut g c).After-perform
 
 -- ---- no impossible call
-
-pub returns-in-Err-clause-possible : goal.returns-in-Err-clause-possible
-returns-in-Err-clause-possible g c honest = (c.in-Err.ensures.opens honest).possible
-
-pub returns-then-lacks_history-clause-possible : goal.returns-then-lacks_history-clause-possible
-returns-then-lacks_history-clause-possible g c honest = (c.in-Ok.ensures.opens honest).possible
 
 possible_so : (g : _) (c : After-perform g) → g.S.Store.honest c.args.store.now → g.S.Store.impossible c.perform.new.store ≡ g.S.Store.impossible c.args.store.now
 possible_so g c honest =

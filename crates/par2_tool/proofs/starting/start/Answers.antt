@@ -17,12 +17,6 @@ returns-in-Ok-clause-run g c =
     (c.as_slice.ensures.value ∙ is) c.run.ensures.reported)
     c.in-Ok.ensures.words
 
-pub returns-in-Ok-clause-memory : goal.returns-in-Ok-clause-memory
-returns-in-Ok-clause-memory g c = IfErr-weaker c.args.given _ _ (λ error none is. absurd (let no = none is in cc)) c.in-Ok.ensures.memory
-
-pub returns-in-Ok-clause-arguments : goal.returns-in-Ok-clause-arguments
-returns-in-Ok-clause-arguments g c = IfErr-weaker c.args.given _ _ (λ error none is. absurd (let no = none is in cc)) c.in-Ok.ensures.arguments
-
 pub returns-in-Err-clause-run : goal.returns-in-Err-clause-run
 returns-in-Err-clause-run g c =
     where_given c.args.given _
@@ -45,3 +39,15 @@ returns-in-Err-clause-memory g c =
       refl {a = c.args.store.now},
     ))
     c.in-Err.ensures.memory
+
+pub returns-in-Err-clause-arguments : goal.returns-in-Err-clause-arguments
+returns-in-Err-clause-arguments g c =
+    IfErr-weaker c.args.given _ _
+    (λ error known is.
+    let same : c.in-Err.failure ≡ failure.Arguments = (let all = known is in cc) in (
+      subst
+          (λ reason. IsShown (Failed [] reason) g.O.Write.contents c.args.out.now c.args.out.now g.E.Write.contents c.args.err.now c.fail.new.err c.fail.result)
+          same (c.fail.ensures, refl {a = c.args.out.now}),
+      refl {a = c.args.store.now},
+    ))
+    c.in-Err.ensures.arguments

@@ -73,18 +73,12 @@ returns-in_err-begin-clause-kept g c h = none_done c.from_residual.result _ c.fr
 pub returns-in_err-write_changes-clause-kept : goal.returns-in_err-write_changes-clause-kept
 returns-in_err-write_changes-clause-kept g c h = none_done c.from_residual-in_err-write_changes.result _ c.from_residual-in_err-write_changes.ensures.0
 
-pub returns-clause-kept : goal.returns-clause-kept
-returns-clause-kept g c h = c.put_journal.ensures.put.writes.durable (c.in_ok-write_changes.ensures.written.honest (c.in_ok-begin.ensures.written.honest h))
-
 possible_so : (g : _) (c : After-write_changes g) → g.S.Store.honest c.args.store.now → IsTrue (are_applicable (g.S.Store.contents c.args.store.now).files (map change_of c.args.changes.now))
     → g.S.Store.impossible c.write_changes.new.store ≡ g.S.Store.impossible c.args.store.now
 possible_so g c h all =
     let begun = c.in_ok-begin.ensures in
     let files = ap (λ (k : Contents). k.files) (begun.written.done h) ∙ halfway_files (g.S.Store.contents c.args.store.now) c.args.journals.now.halfway in
     c.write_changes.ensures.possible (begun.written.honest h) (subst (λ f. IsTrue (are_applicable f (map change_of c.args.changes.now))) (sym files) all) ∙ begun.possible
-
-pub returns-in_err-begin-clause-possible : goal.returns-in_err-begin-clause-possible
-returns-in_err-begin-clause-possible g c h all = c.begin.ensures.possible
 
 pub returns-in_err-write_changes-clause-possible : goal.returns-in_err-write_changes-clause-possible
 returns-in_err-write_changes-clause-possible g c = possible_so g (goal.at.returns-in_err-write_changes-clause-possible g c).After-write_changes
