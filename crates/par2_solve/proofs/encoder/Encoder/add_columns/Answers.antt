@@ -7,8 +7,8 @@ use Rattle.par2_solve.proofs.encoder.Encoder.add_columns.Goals as goal
 many_rows : (n : ℕ) (exponents : List ℕ) (rows : List (Vec ℕ Global)) → lists_of rows ≡ all_coefficients n exponents → length (lists_of rows) ≡ length exponents
 many_rows n exponents rows are = ap length are ∙ length-map exponents (coefficients (range_with_len 0 n))
 
-pub products_of-requires-clause-factors : goal.products_of-requires-clause-factors
-products_of-requires-clause-factors c = rw (many_windows _ _ c.args.self.now.slices.now c.deref.result.now (ap buffers_of c.deref.ensures.value ∙ c.in_ok-windows.ensures)) (rows_long _ c.args.targets.now.exponents.now _ c.requires.rows)
+pub products_of-requires : goal.products_of-requires
+products_of-requires c = rw (many_windows _ _ c.args.self.now.slices.now c.deref.result.now (ap buffers_of c.deref.ensures.value ∙ c.in_ok-windows.ensures)) (rows_long _ c.args.targets.now.exponents.now _ c.requires.rows)
 
 pub add_sums-requires-clause-count : goal.add_sums-requires-clause-count
 add_sums-requires-clause-count c = ap (λ (sums : List (Vec ℕ Global)). length sums) c.deref-2.ensures.value ∙ sym (length-lists_of c.in_ok-sums.sums.items) ∙ c.in_ok-sums.ensures.count ∙ many_rows _ c.args.targets.now.exponents.now c.args.rows.now c.requires.rows ∙ c.args.targets.now.count
