@@ -16,7 +16,7 @@ ghost use Rattle.par2_solve.specs.BufferContents.{buffers_of};
 
 use crate::encoder::{Encoder, Recovered, Targets};
 use crate::exponents::coefficients;
-use crate::products::{BLOCK, ColumnRange, buffer_at, fit_lists, products_of, source_at};
+use crate::products::{BLOCK, ColumnRange, Size, buffer_at, fit_lists, products_of, source_at};
 use crate::spans::close_span;
 use crate::syndromes::windows;
 use par2_gf16::Gf;
@@ -207,9 +207,9 @@ impl<'a> Encoder<'a> {
             (lists_of buffers.old) (lists_of buffers.new)) }
     {
         fit_output(buffers, &targets.outputs);
-        let size = 2 * (columns.to - columns.from);
-        let windows = windows(alloc, self.slices, 2 * columns.from, size)?;
-        let sums = products_of(alloc, self.gf, rows, &windows, size)?;
+        let bytes = 2 * (columns.to - columns.from);
+        let windows = windows(alloc, self.slices, 2 * columns.from, bytes)?;
+        let sums = products_of(alloc, self.gf, rows, &windows, Size { bytes })?;
         add_sums(self.gf, &sums, columns, buffers, &targets.outputs);
         Ok(())
     }

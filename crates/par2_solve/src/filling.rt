@@ -17,7 +17,7 @@ ghost use Rattle.par2_solve.specs.BufferContents.{buffers_of};
 
 use crate::exponents::Lost;
 use crate::holes::{Window, front, hole_inverse, locator};
-use crate::products::{buffer_at, buffers_fit, products_of, source_at};
+use crate::products::{Size, buffer_at, buffers_fit, products_of, source_at};
 use crate::recovery::blank;
 use crate::run_locator::run_locator;
 use crate::solver::{Inverse, located_products};
@@ -178,20 +178,19 @@ impl<'a> Filling<'a> {
         &self,
         alloc: Global,
         sources: &[&[u8]],
-        size: usize,
+        size: Size,
         room: usize,
     ) -> Result<Vec<Vec<u8>>>
-        requires sources { IsFilled (length sources.now) self.now }
-        requires even { size % 2 ≡ 0 }
+        requires { IsFilled (length sources.now) self.now }
         ensures { IfOk result
-            (λ sums. AreProducts size (known_rows self.now) (buffers_of sources.now)
+            (λ sums. AreProducts size.bytes (known_rows self.now) (buffers_of sources.now)
             (lists_of sums.items)) }
     {
         buffers_fit(sources);
         let window = self.window(alloc, sources)?;
-        let mut sums = blank(alloc, self.equations.count, size)?;
+        let mut sums = blank(alloc, self.equations.count, size.bytes)?;
         self.equations
-            .add_sums(alloc, &window, size / 2, sums.as_mut_slice(), room)?;
+            .add_sums(alloc, &window, size.bytes / 2, sums.as_mut_slice(), room)?;
         Ok(sums)
     }
 
@@ -202,13 +201,12 @@ impl<'a> Filling<'a> {
         alloc: Global,
         gf: &Gf,
         sources: &[&[u8]],
-        size: usize,
+        size: Size,
         room: usize,
     ) -> Result<Vec<Vec<u8>>>
-        requires sources { IsFilled (length sources.now) self.now }
-        requires even { size % 2 ≡ 0 }
+        requires { IsFilled (length sources.now) self.now }
         ensures { IfOk result
-            (λ sums. AreProducts size (hole_rows self.now) (buffers_of sources.now)
+            (λ sums. AreProducts size.bytes (hole_rows self.now) (buffers_of sources.now)
             (lists_of sums.items)) }
     {
         buffers_fit(sources);
@@ -243,12 +241,11 @@ impl<'a> Filling<'a> {
         alloc: Global,
         gf: &Gf,
         sources: &[&[u8]],
-        size: usize,
+        size: Size,
         room: usize,
     ) -> Result<Vec<Vec<u8>>>
-        requires sources { IsFilled (length sources.now) self.now }
-        requires even { size % 2 ≡ 0 }
-        ensures { IfOk result (λ sums. AreProducts size (filled_rows self.now)
+        requires { IsFilled (length sources.now) self.now }
+        ensures { IfOk result (λ sums. AreProducts size.bytes (filled_rows self.now)
             (buffers_of sources.now) (lists_of sums.items)) }
     {
         buffers_fit(sources);

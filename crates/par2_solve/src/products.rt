@@ -28,6 +28,13 @@ pub(crate) struct ColumnRange {
     ghost order: { from ≤ to },
 }
 
+/// A size in bytes, which are whole words.
+#[derive(Clone, Copy)]
+pub(crate) struct Size {
+    pub(crate) bytes: usize,
+    ghost even: { bytes % 2 ≡ 0 },
+}
+
 // Adds to target `r` the product of the factor and the source, in the source's columns.
 fn add_product(gf: &Gf, lists: &mut [Vec<u8>], r: usize, factor: &Factor, source: &Columns)
     requires place { r < length lists.old }
@@ -137,22 +144,22 @@ pub(crate) fn add_matrix_product(
     Ok(())
 }
 
-/// The product of a matrix of factors and the sources: for each row a buffer of `size` bytes. A shorter source is read
+/// The product of a matrix of factors and the sources: for each row a buffer of this size. A shorter source is read
 /// as if zeros followed. An error is that memory ran out.
 pub(crate) fn products_of(
     alloc: Global,
     gf: &Gf,
     factors: &[Vec<u16>],
     sources: &[&[u8]],
-    size: usize,
+    size: Size,
 ) -> Result<Vec<Vec<u8>>>
-    requires factors { HaveAtLeast (length sources.now) factors.now }
-    requires even { size % 2 ≡ 0 }
-    ensures { IfOk result (λ sums. AreProducts size (lists_of factors.now) (buffers_of sources.now)
-        (lists_of sums.items)) }
+    requires { HaveAtLeast (length sources.now) factors.now }
+    ensures { IfOk result (λ sums. AreProducts size.bytes
+        (lists_of factors.now) (buffers_of sources.now) (lists_of sums.items)) }
 {
-    let mut sums = blank(alloc, factors.len(), size)?;
-    add_matrix_product(alloc, gf, factors, sources, sums.as_mut_slice(), size / 2)?;
+    let mut sums = blank(alloc, factors.len(), size.bytes)?;
+    let words = size.bytes / 2;
+    add_matrix_product(alloc, gf, factors, sources, sums.as_mut_slice(), words)?;
     Ok(sums)
 }
 

@@ -11,7 +11,7 @@ ghost use Rattle.par2_solve.specs.Rebuilding.{AnotherAlwaysAgrees, AreEnough, Ca
 use crate::encoder::{Encoder, Recovered};
 use crate::exponents::Lost;
 use crate::inverse::{Inversion, bytes_of, exponents_of, invert};
-use crate::products::{fit_known, fit_lists, fit_recovery};
+use crate::products::{Size, fit_known, fit_lists, fit_recovery};
 use crate::room::rows_room;
 use crate::syndromes::solved;
 use par2_gf16::Gf;
@@ -98,7 +98,8 @@ fn solve(alloc: Global, gf: &Gf, survivors: &Survivors, found: &Inversion) -> Re
         exponents: &exponents,
         slices: &recovery,
     };
-    let buffers = solved(alloc, &encoder, &found.inverse, &kept, survivors.slice)?;
+    let bytes = survivors.slice;
+    let buffers = solved(alloc, &encoder, &found.inverse, &kept, Size { bytes })?;
     fit_lists(&buffers);
     Ok(buffers)
 }

@@ -9,7 +9,7 @@ ghost use Rattle.par2_solve.specs.Syndromes.{AreProducts};
 ghost use Rattle.par2_solve.specs.BufferContents.{buffers_of};
 
 use crate::filling::Filling;
-use crate::products::products_of;
+use crate::products::{Size, products_of};
 use crate::recovery::blank;
 use par2_gf16::Gf;
 use par2_spec::Result;
@@ -31,21 +31,20 @@ pub(crate) enum Inverse<'a> {
 }
 
 /// The product of the inverse that a locator represents and the sources, which are the syndromes of its run: for each
-/// lost slice a buffer of `size` bytes. `room` is the memory that the locator may take, in bytes.
+/// lost slice a buffer of this size. `room` is the memory that the locator may take, in bytes.
 pub(crate) fn located_products(
     alloc: Global,
     locator: &Locator,
     sources: &[&[u8]],
-    size: usize,
+    size: Size,
     room: usize,
 ) -> Result<Vec<Vec<u8>>>
-    requires sources { length locator.now.numerators.sequence.items ≡ length sources.now }
-    requires even { size % 2 ≡ 0 }
-    ensures { IfOk result (λ sums. AreProducts size (located_rows locator.now)
+    requires { length locator.now.numerators.sequence.items ≡ length sources.now }
+    ensures { IfOk result (λ sums. AreProducts size.bytes (located_rows locator.now)
         (buffers_of sources.now) (lists_of sums.items)) }
 {
-    let mut sums = blank(alloc, locator.points.len(), size)?;
-    locator.add_quotient_sums(alloc, sources, size / 2, sums.as_mut_slice(), room)?;
+    let mut sums = blank(alloc, locator.points.len(), size.bytes)?;
+    locator.add_quotient_sums(alloc, sources, size.bytes / 2, sums.as_mut_slice(), room)?;
     Ok(sums)
 }
 
@@ -82,13 +81,12 @@ impl<'a> Inverse<'a> {
         alloc: Global,
         gf: &Gf,
         sources: &[&[u8]],
-        size: usize,
+        size: Size,
         room: usize,
     ) -> Result<Vec<Vec<u8>>>
-        requires sources { TakesSources (length sources.now) self.now }
-        requires even { size % 2 ≡ 0 }
-        ensures { IfOk result (λ sums. AreProducts size (rows_of self.now) (buffers_of sources.now)
-            (lists_of sums.items)) }
+        requires { TakesSources (length sources.now) self.now }
+        ensures { IfOk result (λ sums. AreProducts size.bytes
+            (rows_of self.now) (buffers_of sources.now) (lists_of sums.items)) }
     {
         match self {
             Inverse::Rows(rows) => products_of(alloc, gf, rows, sources, size),

@@ -11,7 +11,7 @@ ghost use Rattle.par2_solve.specs.Syndromes.{chunk, AreSolved, AreExtended};
 ghost use Rattle.par2_solve.specs.BufferContents.{buffers_of, AreBlank};
 
 use crate::encoder::{Encoder, Recovered};
-use crate::products::{buffer_at, buffers_fit};
+use crate::products::{Size, buffer_at, buffers_fit};
 use crate::room::columns_at_once;
 use crate::solver::Inverse;
 use par2_slices::window_bytes;
@@ -46,38 +46,37 @@ pub(crate) fn borrowed(alloc: Global, buffers: &[Vec<u8>]) -> Result<Vec<&[u8]>>
     buffers.iter().map(|bytes| bytes.as_slice()).collect(alloc)
 }
 
-// The `count` bytes from byte `from` on of each lost slice: the inverse times the syndromes of these bytes.
+// The bytes from byte `from` on of each lost slice, `size` of them: the inverse times the syndromes of these bytes.
 fn solved_block(
     alloc: Global,
     encoder: &Encoder,
     inverse: &Inverse,
     kept: &Recovered,
     from: usize,
-    count: usize,
+    size: Size,
 ) -> Result<Vec<Vec<u8>>>
     // The inverse has a column for each recovery slice.
     requires inverse { TakesSources (length kept.now.slices.now) inverse.now }
     // The bytes are whole words that each recovery slice has.
-    requires size { HaveColumns (from + count) kept.now.slices.now }
-    requires even { count % 2 ≡ 0 }
+    requires size { HaveColumns (from + size.bytes) kept.now.slices.now }
     // The result is the inverse times the syndromes of these bytes.
-    ensures { IfOk result (λ buffers. AreSolved count
+    ensures { IfOk result (λ buffers. AreSolved size.bytes
         (rows_of inverse.now) kept.now.exponents.now
-        (map (chunk from count) (buffers_of encoder.now.slices.now))
-        (map (chunk from count) (buffers_of kept.now.slices.now)) (lists_of buffers.items)) }
+        (map (chunk from size.bytes) (buffers_of encoder.now.slices.now))
+        (map (chunk from size.bytes) (buffers_of kept.now.slices.now)) (lists_of buffers.items)) }
 {
     let Encoder { gf, slices, room } = *encoder;
-    let slices = windows(alloc, slices, from, count)?;
-    let recovery = windows(alloc, kept.slices, from, count)?;
+    let slices = windows(alloc, slices, from, size.bytes)?;
+    let recovery = windows(alloc, kept.slices, from, size.bytes)?;
     let slices = slices.as_slice();
     let block = Encoder { gf, slices, room };
     let part = Recovered {
         exponents: kept.exponents,
         slices: &recovery,
     };
-    let syndromes = block.with_recovery_slices(alloc, count / 2, &part)?;
+    let syndromes = block.with_recovery_slices(alloc, size.bytes / 2, &part)?;
     let sources = borrowed(alloc, &syndromes)?;
-    inverse.products(alloc, gf, &sources, count, room)
+    inverse.products(alloc, gf, &sources, size, room)
 }
 
 // `count` empty buffers with capacity for `size` bytes each: a lost slice for each row of the inverse.
@@ -114,22 +113,21 @@ fn extend(buffers: &mut [Vec<u8>], blocks: &[Vec<u8>]) -> Result<()>
     Ok(())
 }
 
-/// The lost slices, of `size` bytes each: the inverse times the syndromes of the kept exponents, block by block. The
+/// The lost slices, of this size each: the inverse times the syndromes of the kept exponents, block by block. The
 /// encoder has all input slices, a lost one empty, and the room that the transform's rows may take.
 pub(crate) fn solved(
     alloc: Global,
     encoder: &Encoder,
     inverse: &Inverse,
     kept: &Recovered,
-    size: usize,
+    size: Size,
 ) -> Result<Vec<Vec<u8>>>
     // The inverse has a column for each recovery slice.
     requires inverse { TakesSources (length kept.now.slices.now) inverse.now }
-    // Recovery slices are whole words, all of the same size.
-    requires size { AreOfSize size kept.now.slices.now }
-    requires even { size % 2 ≡ 0 }
+    // Recovery slices are all of this size.
+    requires size { AreOfSize size.bytes kept.now.slices.now }
     // The result is the inverse times the syndromes.
-    ensures solved { IfOk result (λ buffers. AreSolved size
+    ensures solved { IfOk result (λ buffers. AreSolved size.bytes
         (rows_of inverse.now) kept.now.exponents.now
         (buffers_of encoder.now.slices.now) (buffers_of kept.now.slices.now)
         (lists_of buffers.items)) }
@@ -139,15 +137,15 @@ pub(crate) fn solved(
 {
     buffers_fit(encoder.slices);
     buffers_fit(kept.slices);
-    let columns = columns_at_once(encoder.slices, kept.slices.len(), size);
+    let columns = columns_at_once(encoder.slices, kept.slices.len(), size.bytes);
     let at_once = columns.max(inverse.least());
-    let mut buffers = reserved(alloc, inverse.len(), size)?;
+    let mut buffers = reserved(alloc, inverse.len(), size.bytes)?;
     let mut from = 0;
-    while from < size {
-        let count = at_once.min(size - from);
-        let lost = solved_block(alloc, encoder, inverse, kept, from, count)?;
+    while from < size.bytes {
+        let bytes = at_once.min(size.bytes - from);
+        let lost = solved_block(alloc, encoder, inverse, kept, from, Size { bytes })?;
         extend(buffers.as_mut_slice(), &lost)?;
-        from += count;
+        from += bytes;
     }
     Ok(buffers)
 }

@@ -7,12 +7,10 @@ loop-k-init c = no_source (lists_of c.args.factors.now) (buffers_of c.args.sourc
 
 pub loop-k-preserved-then-is_empty : goal.loop-k-preserved-then-is_empty
 loop-k-preserved-then-is_empty c =
-    let factors = lists_of c.args.factors.now in
     let source = list_at (buffers_of c.args.sources.now) c.loop-k.k in
     let now = lists_of c.loop-k.targets in
-    let none : length source ≡ 0 = search rules in
-    next_source factors (buffers_of c.args.sources.now) (lists_of c.args.targets.now) now now c.args.columns.from c.args.columns.to c.loop-k.k c.loop-k.invariant
-    (empty_source (λ r. get_or (list_at factors r) c.loop-k.k 0) source now c.args.columns.from c.args.columns.to (length now) none)
+    next_source (lists_of c.args.factors.now) (buffers_of c.args.sources.now) (lists_of c.args.targets.now) now now c.args.columns.from c.args.columns.to c.loop-k.k c.loop-k.invariant
+    (empty_source (λ r. get_or (list_at (lists_of c.args.factors.now) r) c.loop-k.k 0) source now c.args.columns.from c.args.columns.to (length now) (let none : length source ≡ 0 = search rules in none))
 
 pub loop-k-preserved : goal.loop-k-preserved
 loop-k-preserved c =

@@ -7,7 +7,7 @@ pub returns : goal.returns
 returns c =
     let new = c.add_matrix_product.new.targets in
     let many : length new ≡ c.in_ok-sums.sums.len = search rules in
-    let whole : c.args.size ≡ 2 * (c.args.size / 2) = omega (arith, c.requires.even) in
+    let whole : c.args.size.bytes ≡ 2 * (c.args.size.bytes / 2) = omega (arith, c.args.size.even) in
     rw (with_items_is c.in_ok-sums.sums new many, whole)
-    (products_added (c.args.size / 2) (length c.args.factors.now) (lists_of c.args.factors.now) (buffers_of c.args.sources.now) (lists_of c.in_ok-sums.sums.items) (lists_of new) (sym (length-lists_of c.args.factors.now)) (rw whole at c.in_ok-sums.ensures)
+    (products_added (c.args.size.bytes / 2) (length c.args.factors.now) (lists_of c.args.factors.now) (buffers_of c.args.sources.now) (lists_of c.in_ok-sums.sums.items) (lists_of new) (sym (length-lists_of c.args.factors.now)) (rw whole at c.in_ok-sums.ensures)
     (rw (c.as_mut_slice.ensures.value, ← length-buffers_of c.args.sources.now) at c.in_ok-add_matrix_product.ensures))

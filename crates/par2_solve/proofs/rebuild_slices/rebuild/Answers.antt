@@ -17,13 +17,8 @@ are_lost c = missing_are c ∙ sym (lost_are c.args.survivors.now.slice c.args.s
 
 pub invariant_of-lost : goal.invariant_of-lost
 invariant_of-lost c =
-    let at = (goal.at.invariant_of-lost c).After-deref-4 in
-    let survivors = c.args.survivors.now in
-    rw (missing_are at) (record {
-      count = length-lost_from 0 32768 survivors.known.items c.requires.count;
-      below = lost-lt survivors.known.items c.requires.count;
-      rise = lost_rise 0 survivors.known.items;
-    })
+    let known = c.args.survivors.now.known.items in
+    rw (missing_are (goal.at.invariant_of-lost c).After-deref-4) (record { count = length-lost_from 0 32768 known c.requires.count; below = lost-lt known c.requires.count; rise = lost_rise 0 known })
 
 pub returns-in_err-found-clause-refused : goal.returns-in_err-found-clause-refused
 returns-in_err-found-clause-refused c =

@@ -6,7 +6,7 @@ use Rattle.par2_solve.proofs.syndromes.solved.Goals as goal
 pub loop-from-preserved : goal.loop-from-preserved
 loop-from-preserved c =
     let from = c.loop-from.from in
-    let n = c.min-count.result in
+    let n = c.min-bytes.result in
     let inverse = rows_of c.args.inverse.now in
     let exponents = c.args.kept.now.exponents.now in
     let slices = buffers_of c.args.encoder.now.slices.now in

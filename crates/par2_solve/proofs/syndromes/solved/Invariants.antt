@@ -6,8 +6,8 @@ abbrev pub invariant-loop-from : goal.invariant-loop-from
 invariant-loop-from l = record {
   solved : AreSolved l.from (rows_of l.inverse) l.kept.exponents.now (buffers_of l.encoder.slices.now) (buffers_of l.kept.slices.now) (lists_of l.buffers.items);
   even : l.from % 2 ≡ 0;
-  within : l.from ≤ l.size;
+  within : l.from ≤ l.size.bytes;
 }
 
 abbrev pub decreases-loop-from : goal.decreases-loop-from
-decreases-loop-from l = l.size - l.from
+decreases-loop-from l = l.size.bytes - l.from

@@ -13,10 +13,8 @@ pub invariant_of-group : goal.invariant_of-group
 invariant_of-group c =
     let at = (goal.at.invariant_of-group c).After-group_end-to in
     let left = length-drop c.loop-at.at c.args.targets.now.exponents.now in
-    record {
-      count = length-take-le (c.group_end-to.result - c.loop-at.at) (drop c.loop-at.at c.args.targets.now.exponents.now) (omega (arith, left, order at, c.group_end-to.ensures.within))
-          ∙ sym (ap length c.part-outputs.ensures.places ∙ length-group c.loop-at.at c.group_end-to.result c.args.targets.now.outputs.places.now (order at) (fits at));
-    }
+    let long = length-take-le (c.group_end-to.result - c.loop-at.at) (drop c.loop-at.at c.args.targets.now.exponents.now) (omega (arith, left, order at, c.group_end-to.ensures.within)) in
+    record { count = long ∙ sym (ap length c.part-outputs.ensures.places ∙ length-group c.loop-at.at c.group_end-to.result c.args.targets.now.outputs.places.now (order at) (fits at)) }
 
 pub add_group-requires-clause-room : goal.add_group-requires-clause-room
 add_group-requires-clause-room c =

@@ -1,17 +1,14 @@
-use Rattle.par2_solve.proofs.Common.{◌≡◌, ◌∙◌, ℕ, List, Vec, Global, sym, ap, arith, length, length-map, coefficients, range_with_len, all_coefficients, lists_of, length-lists_of, buffers_of}
+use Rattle.par2_solve.proofs.Common.{◌∙◌, ℕ, List, Vec, Global, sym, ap, arith, length, length-map, coefficients, range_with_len, lists_of, length-lists_of, buffers_of}
 use Rattle.par2_solve.proofs.AdditionLaws.{sums_are}
 use Rattle.par2_solve.proofs.Combinations.{length-buffers_of, rows_long}
 use Rattle.par2_solve.proofs.Solving.{many_windows}
 use Rattle.par2_solve.proofs.encoder.Encoder.add_columns.Goals as goal
 
-many_rows : (n : ℕ) (exponents : List ℕ) (rows : List (Vec ℕ Global)) → lists_of rows ≡ all_coefficients n exponents → length (lists_of rows) ≡ length exponents
-many_rows n exponents rows are = ap length are ∙ length-map exponents (coefficients (range_with_len 0 n))
-
-pub products_of-requires-clause-factors : goal.products_of-requires-clause-factors
-products_of-requires-clause-factors c = rw (many_windows _ _ c.args.self.now.slices.now c.deref.result.now (ap buffers_of c.deref.ensures.value ∙ c.in_ok-windows.ensures)) (rows_long _ c.args.targets.now.exponents.now _ c.requires.rows)
+pub products_of-requires : goal.products_of-requires
+products_of-requires c = rw (many_windows _ _ c.args.self.now.slices.now c.deref.result.now (ap buffers_of c.deref.ensures.value ∙ c.in_ok-windows.ensures)) (rows_long _ c.args.targets.now.exponents.now _ c.requires.rows)
 
 pub add_sums-requires-clause-count : goal.add_sums-requires-clause-count
-add_sums-requires-clause-count c = ap (λ (sums : List (Vec ℕ Global)). length sums) c.deref-2.ensures.value ∙ sym (length-lists_of c.in_ok-sums.sums.items) ∙ c.in_ok-sums.ensures.count ∙ many_rows _ c.args.targets.now.exponents.now c.args.rows.now c.requires.rows ∙ c.args.targets.now.count
+add_sums-requires-clause-count c = ap (λ (sums : List (Vec ℕ Global)). length sums) c.deref-2.ensures.value ∙ sym (length-lists_of c.in_ok-sums.sums.items) ∙ c.in_ok-sums.ensures.count ∙ ap length c.requires.rows ∙ length-map c.args.targets.now.exponents.now (coefficients (range_with_len 0 (length c.args.self.now.slices.now))) ∙ c.args.targets.now.count
 
 pub add_sums-requires-clause-sizes : goal.add_sums-requires-clause-sizes
 add_sums-requires-clause-sizes c =
@@ -21,4 +18,4 @@ add_sums-requires-clause-sizes c =
 pub returns : goal.returns
 returns c =
     sums_are c.args.targets.now.outputs.places.now c.args.targets.now.outputs.words c.args.columns.from c.args.columns.to (length c.args.self.now.slices.now) (lists_of c.args.rows.now) (buffers_of c.args.self.now.slices.now) (buffers_of c.deref.result.now) (lists_of c.deref-2.result.now) (lists_of c.args.buffers.now) (lists_of c.add_sums.new.buffers) c.args.columns.order
-    (ap buffers_of c.deref.ensures.value ∙ c.in_ok-windows.ensures) (sym (length-buffers_of c.args.self.now.slices.now)) (many_rows _ c.args.targets.now.exponents.now c.args.rows.now c.requires.rows ∙ c.args.targets.now.count) (rw (← c.deref-2.ensures.value) at c.in_ok-sums.ensures) c.add_sums.ensures
+    (ap buffers_of c.deref.ensures.value ∙ c.in_ok-windows.ensures) (sym (length-buffers_of c.args.self.now.slices.now)) (ap length c.requires.rows ∙ length-map c.args.targets.now.exponents.now (coefficients (range_with_len 0 (length c.args.self.now.slices.now))) ∙ c.args.targets.now.count) (rw (← c.deref-2.ensures.value) at c.in_ok-sums.ensures) c.add_sums.ensures

@@ -10,7 +10,7 @@ returns c =
     let filling = c.args.self.now in
     let buffers = buffers_of c.args.sources.now in
     let run_is = ap buffers_of c.deref-2.ensures.value ∙ rw c.deref.ensures.value at c.in_ok-run.ensures in
-    IfOk-weaker c.located_products.result (λ sums. AreProducts c.args.size (located_rows filling.locator) (buffers_of c.deref-2.result.now) (lists_of sums.items)) (λ sums. AreProducts c.args.size (filled_rows filling) buffers (lists_of sums.items))
-    (λ sums are. run_made filling _ c.args.size buffers (lists_of c.in_ok-holes.holes.items) (buffers_of c.deref-2.result.now) (lists_of sums.items) c.requires.sources (length-buffers_of c.args.sources.now) c.buffers_fit.ensures c.in_ok-holes.ensures
+    IfOk-weaker c.located_products.result (λ sums. AreProducts c.args.size.bytes (located_rows filling.locator) (buffers_of c.deref-2.result.now) (lists_of sums.items)) (λ sums. AreProducts c.args.size.bytes (filled_rows filling) buffers (lists_of sums.items))
+    (λ sums are. run_made filling _ c.args.size.bytes buffers (lists_of c.in_ok-holes.holes.items) (buffers_of c.deref-2.result.now) (lists_of sums.items) c.requires (length-buffers_of c.args.sources.now) c.buffers_fit.ensures c.in_ok-holes.ensures
     (run_is ∙ ap (λ n. map (from_origin buffers (lists_of c.in_ok-holes.holes.items)) (take n filling.origins.items)) (sym (length-buffers_of c.args.sources.now))) are)
     c.located_products.ensures
