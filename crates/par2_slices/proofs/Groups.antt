@@ -1,5 +1,7 @@
 -- Sets of groups of checksums.
 use Prim.Native.Nat.{max}
+use mir.Val.{bits}
+use Rattle.std.specs.Int.{Width}
 use Rattle.par2_slices.proofs.Common.{◌≡◌, ◌≢◌, ℕ, zero, suc, ◌+◌, ◌-◌, ◌*◌, ◌^◌, ◌<◌, ◌%◌, ◌/◌, List, length, get_or, set, replicate, refl, subst, sym, ap, ◌∙◌, get_or-set_same, get_or-set_other, arith, inl, inr, ◌⊎◌, bit_and, bit_or, w8, bit_at, bit_not, cases_eq, get_or_read, shr_below, suc-ne-zero, Groups, IsLong, Includes}
 use Rattle.std.proofs.lemmas.Nat.Bits.{bit_at_or, bit_at-zero, bit_at_set_same, bit_at_set_other, bit_at_clear_same, bit_at_clear_other}
 
@@ -48,18 +50,21 @@ pub included : (shift crc : ℕ) (bytes : List ℕ) → crc / 2 ^ shift < length
 included shift crc bytes place =
     record { bit = in_place shift crc crc _ bytes place refl ∙ bit_at_set_same w8 (get_or bytes (crc / 2 ^ shift) 0) (crc % 8) (omega arith) }
 
--- a bit of a byte stays set when another is set
-stays : (byte k j : ℕ) → k < 8 → bit_at byte j ≡ 1 → bit_at (bit_or byte (1 * 2 ^ k % 2 ^ 8)) j ≡ 1
-stays byte k j low is = elim (cases_eq j k) [
-  | inl same ↦ ap (bit_at (bit_or byte (1 * 2 ^ k % 2 ^ 8))) same ∙ bit_at_set_same w8 byte k low
-  | inr other ↦ bit_at_set_other w8 byte k low j other ∙ is
-]
+-- a bit of a word stays set when another is set
+pub kept_by_set : (w : Width) (words : List ℕ) (i k : ℕ) → i < length words → k < bits w → (j l : ℕ) → bit_at (get_or words j 0) l ≡ 1 → bit_at (get_or (set words i (bit_or (get_or words i 0) (1 * 2 ^ k % 2 ^ bits w))) j 0) l ≡ 1
+kept_by_set w words i k place low j l is =
+    let word : ℕ = get_or words i 0 in
+    let now : ℕ = bit_or word (1 * 2 ^ k % 2 ^ bits w) in
+    elim (cases_eq j i) [
+      | inl same ↦ ap (λ n. bit_at (get_or (set words i now) n 0) l) same ∙ ap (λ n. bit_at n l) (get_or-set_same words i now 0 place) ∙ elim (cases_eq l k) [
+        | inl bit ↦ ap (bit_at now) bit ∙ bit_at_set_same w word k low
+        | inr other ↦ bit_at_set_other w word k low l other ∙ sym (ap (λ n. bit_at (get_or words n 0) l) same) ∙ is
+      ]
+      | inr apart ↦ ap (λ n. bit_at n l) (get_or-set_other words i j now 0 apart) ∙ is
+    ]
 
 pub kept_by_insert : (shift crc : ℕ) (bytes : List ℕ) → crc / 2 ^ shift < length bytes → (other : ℕ) → Includes (record { shift = shift; bytes = bytes }) other → Includes (with_bit shift crc bytes) other
-kept_by_insert shift crc bytes place other is = elim (cases_eq (other / 2 ^ shift) (crc / 2 ^ shift)) [
-  | inl same ↦ record { bit = in_place shift crc other _ bytes place same ∙ stays (get_or bytes (crc / 2 ^ shift) 0) (crc % 8) (other % 8) (omega arith) (sym (here shift crc other bytes same) ∙ is.bit) }
-  | inr apart ↦ record { bit = elsewhere shift crc other _ bytes apart ∙ is.bit }
-]
+kept_by_insert shift crc bytes place other is = record { bit = kept_by_set w8 bytes (crc / 2 ^ shift) (crc % 8) place (omega arith) (other / 2 ^ shift) (other % 8) is.bit }
 
 pub only_by_insert : (shift crc : ℕ) (bytes : List ℕ) → crc / 2 ^ shift < length bytes → (other : ℕ) → Includes (with_bit shift crc bytes) other → (other / 2 ^ shift ≡ crc / 2 ^ shift) × (other % 8 ≡ crc % 8) ⊎ Includes (record { shift = shift; bytes = bytes }) other
 only_by_insert shift crc bytes place other is = elim (cases_eq (other / 2 ^ shift) (crc / 2 ^ shift)) [
@@ -74,11 +79,19 @@ pub gone : (shift crc : ℕ) (bytes : List ℕ) → crc / 2 ^ shift < length byt
 gone shift crc bytes place is =
     suc-ne-zero 0 (sym is.bit ∙ in_place shift crc crc _ bytes place refl ∙ bit_at_clear_same w8 (get_or bytes (crc / 2 ^ shift) 0) (crc % 8) (omega arith))
 
+-- a bit of a word stays set when another is cleared
+pub kept_by_clear : (w : Width) (words : List ℕ) (i k : ℕ) → i < length words → k < bits w → (j l : ℕ) → l < bits w → ((j ≡ i) × (l ≡ k) → ⊥) → bit_at (get_or words j 0) l ≡ 1 → bit_at (get_or (set words i (bit_and (get_or words i 0) (bit_not w (1 * 2 ^ k % 2 ^ bits w)))) j 0) l ≡ 1
+kept_by_clear w words i k place low j l within differs is =
+    let word : ℕ = get_or words i 0 in
+    let now : ℕ = bit_and word (bit_not w (1 * 2 ^ k % 2 ^ bits w)) in
+    elim (cases_eq j i) [
+      | inl same ↦ ap (λ n. bit_at (get_or (set words i now) n 0) l) same ∙ ap (λ n. bit_at n l) (get_or-set_same words i now 0 place)
+          ∙ bit_at_clear_other w word k low l within (λ bit. differs (same, bit)) ∙ sym (ap (λ n. bit_at (get_or words n 0) l) same) ∙ is
+      | inr apart ↦ ap (λ n. bit_at n l) (get_or-set_other words i j now 0 apart) ∙ is
+    ]
+
 pub kept_by_remove : (shift crc : ℕ) (bytes : List ℕ) → crc / 2 ^ shift < length bytes → (other : ℕ) → ((other / 2 ^ shift ≡ crc / 2 ^ shift) × (other % 8 ≡ crc % 8) → ⊥) → Includes (record { shift = shift; bytes = bytes }) other → Includes (without_bit shift crc bytes) other
-kept_by_remove shift crc bytes place other differs is = elim (cases_eq (other / 2 ^ shift) (crc / 2 ^ shift)) [
-  | inl same ↦ record { bit = in_place shift crc other _ bytes place same ∙ bit_at_clear_other w8 (get_or bytes (crc / 2 ^ shift) 0) (crc % 8) (omega arith) (other % 8) (omega arith) (λ low. differs (same, low)) ∙ sym (here shift crc other bytes same) ∙ is.bit }
-  | inr apart ↦ record { bit = elsewhere shift crc other _ bytes apart ∙ is.bit }
-]
+kept_by_remove shift crc bytes place other differs is = record { bit = kept_by_clear w8 bytes (crc / 2 ^ shift) (crc % 8) place (omega arith) (other / 2 ^ shift) (other % 8) (omega arith) differs is.bit }
 
 pub only_by_remove : (shift crc : ℕ) (bytes : List ℕ) → crc / 2 ^ shift < length bytes → (other : ℕ) → Includes (without_bit shift crc bytes) other → Includes (record { shift = shift; bytes = bytes }) other
 only_by_remove shift crc bytes place other is = elim (cases_eq (other / 2 ^ shift) (crc / 2 ^ shift)) [

@@ -23,9 +23,9 @@ AreAlike shift crc other = (other / 2 ^ shift ≡ crc / 2 ^ shift) × (other % 8
 
 -- the summary's bit for the byte at this place is set
 abbrev pub HasBit : List ℕ → ℕ → Type 0
-HasBit summary place = bit_at (slice_index summary (place / 8)) (place % 8) ≡ 1
+HasBit summary place = bit_at (slice_index summary (place / 32)) (place % 32) ≡ 1
 
 -- the summary has a bit for each byte, which is set if the byte isn't 0
 pub record Summarizes (bytes summary : List ℕ) : Type 0 where
-  pub len : 8 * length summary ≡ length bytes
+  pub len : 32 * length summary ≡ length bytes
   pub bits : (place : ℕ) → slice_index bytes place ≢ 0 → HasBit summary place

@@ -31,7 +31,7 @@ pub(crate) struct Filter {
     shift: u32,
     bytes: Vec<u8>,
     // A bit for each byte, which is set if the byte isn't 0.
-    summary: Vec<u8>,
+    summary: Vec<u32>,
 }
 
 impl Model for Filter {
@@ -45,24 +45,24 @@ impl Model for Filter {
 }
 
 // Sets the summary's bit for the byte at `place`.
-fn set_bit(summary: &mut [u8], place: usize)
-    requires { place < 8 * length summary.old }
+fn set_bit(summary: &mut [u32], place: usize)
+    requires { place < 32 * length summary.old }
     ensures len { length summary.new ≡ length summary.old }
     ensures bit { HasBit summary.new place }
     ensures kept { (other : ℕ) → HasBit summary.old other → HasBit summary.new other }
 {
-    summary[place / 8] |= 1 << (place % 8);
+    summary[place / 32] |= 1 << (place % 32);
 }
 
 // Clears the summary's bit for the byte at `place` if that is 0.
-fn clear_zero(summary: &mut [u8], place: usize, byte: u8)
-    requires { place < 8 * length summary.old }
+fn clear_zero(summary: &mut [u32], place: usize, byte: u8)
+    requires { place < 32 * length summary.old }
     ensures len { length summary.new ≡ length summary.old }
     ensures here { byte ≢ 0 → HasBit summary.old place → HasBit summary.new place }
     ensures kept { (other : ℕ) → other ≢ place → HasBit summary.old other → HasBit summary.new other }
 {
     if byte == 0 {
-        summary[place / 8] &= !(1 << (place % 8));
+        summary[place / 32] &= !(1 << (place % 32));
     }
 }
 
@@ -80,7 +80,7 @@ impl Filter {
         Ok(Filter {
             shift,
             bytes: vec![in alloc; 0u8; bytes]?,
-            summary: vec![in alloc; 0u8; bytes / 8]?,
+            summary: vec![in alloc; 0u32; bytes / 32]?,
         })
     }
 
@@ -128,13 +128,13 @@ impl Filter {
     // A number that is odd if the byte of the group of `crc` isn't 0. `shift` is the filter's; callers know it as a
     // constant.
     #[inline(always)]
-    fn summary_at(&self, crc: u32, shift: u32) -> u8
+    fn summary_at(&self, crc: u32, shift: u32) -> u32
         requires { shift ≡ self.now.shift }
         ensures { Includes self.now crc → result % 2 ≡ 1 }
     {
         let summary = self.summary.as_slice();
         let place = (crc >> shift) as usize;
-        summary[place / 8] >> (place % 8)
+        summary[place / 32] >> (place % 32)
     }
 
     /// Whether the group of `crc` is in the set.
