@@ -42,4 +42,6 @@ unfoldable pub use Rattle.par2_transform.specs.PowerSums.{power_sum}
 pub use Rattle.par2_transform.specs.LevelSteps.{AheadAdded, IsButterfly, IsLowered, IsOneAdded, IsRaised, IsSpreadAbove, IsSpreadBelow, OneRun, RunAdded, RunAddedBy, SameValuesOutside, spread_beyond, spread_within}
 unfoldable pub use Rattle.par2_transform.specs.Subspaces.{basis, bit_numbers, point, point_number, powers_in, vanishing}
 pub use Rattle.par2_transform.specs.Transforms.{Cut, HasWeights, Reaches, class_part, coefficient_of, gathered, window_value}
+pub use Rattle.par2_transform.specs.declared.outputs.Columns.{Columns}
 pub use Rattle.par2_transform.specs.declared.outputs.Place.{Place}
+pub use Rattle.par2_transform.specs.declared.outputs.Places.{Places}

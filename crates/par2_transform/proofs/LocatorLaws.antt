@@ -345,29 +345,3 @@ all_cosets places len numbers k at to n given was buffers few is small added =
     let whole : n * 2 ^ k ≡ 65536 = ap (λ m. m * 2 ^ k) is ∙ sym (pow-add 2 (16 - k) k) ∙ ap (λ m. 2 ^ m) (let e : 16 - k + k ≡ 16 = omega (arith, few) in e) in
     adds_same places len (λ t p. within 0 (n * 2 ^ k) (get_or numbers t 0) (within at to p (given t p))) (λ t p. within at to p (given t p)) was buffers added
     (λ t p h fits. within-in 0 (n * 2 ^ k) (get_or numbers t 0) (within at to p (given t p)) (omega arith) (omega (arith, whole, small t)))
-
--- ---- columns by columns
-
-abbrev pub WordsAdded : List Place → ℕ → ℕ → (ℕ → ℕ → ℕ) → ℕ → List (List ℕ) → List (List ℕ) → Type 0
-WordsAdded places len columns given n was buffers = AddsAt places len (λ t p. within 0 (min len (n * columns)) p (given t p)) was buffers
-
-pub no_words : (places : List Place) (len columns : ℕ) (given : ℕ → ℕ → ℕ) (buffers : List (List ℕ)) → WordsAdded places len columns given 0 buffers buffers
-no_words places len columns given buffers =
-    adds_none places len (λ t p. within 0 (min len (0 * columns)) p (given t p)) buffers (λ t p. within-above 0 (min len (0 * columns)) p (given t p) (omega arith))
-
-pub next_words : (places : List Place) (len columns n to : ℕ) (given : ℕ → ℕ → ℕ) (was half buffers : List (List ℕ)) → WordsAdded places len columns given n was half → n * columns < len → to ≡ n * columns + min columns (len - n * columns)
-    → AddsAt places len (λ t p. within (n * columns) to p (given t p)) half buffers → WordsAdded places len columns given (n + 1) was buffers
-next_words places len columns n to given was half buffers so_far low place added =
-    let here : min len (n * columns) ≡ n * columns = omega (arith, low) in
-    let next : (n + 1) * columns ≡ n * columns + columns = omega arith in
-    let there : to ≡ min len ((n + 1) * columns) = omega (arith, place, next, low) in
-    adds_more places len (λ t p. within 0 (min len (n * columns)) p (given t p)) (λ t p. within (n * columns) to p (given t p)) (λ t p. within 0 (min len ((n + 1) * columns)) p (given t p)) was half buffers so_far added
-    (λ t p h fits.
-    ap (λ m. bit_xor (within 0 m p (given t p)) (within (n * columns) to p (given t p))) here
-    ∙ within_joined 0 (n * columns) to p (given t p) (omega arith) (omega (arith, place))
-    ∙ ap (λ m. within 0 m p (given t p)) there)
-
-pub all_words : (places : List Place) (len columns n : ℕ) (given : ℕ → ℕ → ℕ) (was buffers : List (List ℕ)) → len ≤ n * columns → WordsAdded places len columns given n was buffers → AddsAt places len given was buffers
-all_words places len columns n given was buffers enough added =
-    adds_same places len (λ t p. within 0 (min len (n * columns)) p (given t p)) given was buffers added
-    (λ t p h fits. within-in 0 (min len (n * columns)) p (given t p) (omega arith) (omega (arith, enough, fits)))

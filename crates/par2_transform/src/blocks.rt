@@ -13,7 +13,7 @@ ghost use Rattle.par2_transform.specs.Plans.{cut_of};
 ghost use Rattle.par2_transform.specs.Transforms.{HasWeights};
 
 use crate::levels::power_sums;
-use crate::outputs::{Places, add_to_output};
+use crate::outputs::Columns;
 use crate::plan::Plan;
 use crate::powers::{chirp, chirp_inverse, power};
 use crate::rows::Rows;
@@ -146,18 +146,15 @@ impl Block {
         gather_rows(gf, weights_at(&self.weights, a), values, &mut self.sums);
     }
 
-    /// Turns the sums gathered for class r into outputs, and adds these to the outputs from `first` on, in columns
-    /// `from` up to `to`. `first` is the index, among all outputs, of the block's first one. The gathered sums are
-    /// overwritten.
+    /// Turns the sums gathered for class r into outputs, and adds these to the outputs from `first` on, in these columns.
+    /// `first` is the index, among all outputs, of the block's first one. The gathered sums are overwritten.
     pub(crate) fn add_to(
         &mut self,
         gf: &Gf,
         plan: &Plan,
         r: usize,
-        from: usize,
-        to: usize,
+        columns: &Columns,
         buffers: &mut [Vec<u8>],
-        outputs: &Places,
         first: usize,
     )
         // The block has the shape of the plan, and r is one of its classes.
@@ -165,32 +162,23 @@ impl Block {
         requires class { r < plan.now.classes }
         requires levels { self.old.sums.levels ≡ plan.now.levels }
         requires words { self.old.sums.words ≡ plan.now.columns }
-        // One block of columns at most, inside the outputs, which lie inside the buffers.
-        requires order { from ≤ to }
-        requires columns { to ≤ from + plan.now.columns }
-        requires inside { to ≤ outputs.now.words }
-        requires room { LieWithin outputs.now.words outputs.now.places.now (lists_of buffers.old) }
+        // One block of columns at most, and the outputs lie inside the buffers.
+        requires columns { columns.now.to ≤ columns.now.from + plan.now.columns }
+        requires room { LieWithin columns.now.outputs.words columns.now.outputs.places.now
+            (lists_of buffers.old) }
         // The part of class r is added to the outputs of this block and to nothing else. Only the sums of the block
         // change.
         ensures kept { Keeps self.old self.new }
-        ensures added { AddsAt outputs.now.places.now outputs.now.words
+        ensures added { AddsAt columns.now.outputs.places.now columns.now.outputs.words
             (λ t p. within first (first + plan.now.block) t
-            (within from to p (from_gathered (cut_of plan.now) (column self.old.sums (p - from))
+            (within columns.now.from columns.now.to p
+            (from_gathered (cut_of plan.now) (column self.old.sums (p - columns.now.from))
             self.old.exponent (t - first) r))) (lists_of buffers.old) (lists_of buffers.new) }
     {
         power_sums(gf, &mut self.sums);
-        for t in 0..plan.block.min(outputs.len().saturating_sub(first)) {
+        for t in 0..plan.block.min(columns.outputs.len().saturating_sub(first)) {
             let factor = factor_of(gf, plan, r, self.exponent + t as u64);
-            add_to_output(
-                gf,
-                factor,
-                self.sums.row(t),
-                buffers,
-                outputs,
-                first + t,
-                from,
-                to,
-            );
+            columns.add(gf, factor, self.sums.row(t), buffers, first + t);
         }
     }
 }
@@ -243,18 +231,15 @@ pub(crate) fn gather_all(gf: &Gf, a: usize, values: &Rows, blocks: &mut [Block])
     }
 }
 
-// Turns the sums that block j gathered for class r into outputs, and adds these in columns `from` up to `to`: the step
-// of `add_all`.
+// Turns the sums that block j gathered for class r into outputs, and adds these in these columns: the step of `add_all`.
 fn add_one(
     gf: &Gf,
     plan: &Plan,
     r: usize,
-    from: usize,
-    to: usize,
+    columns: &Columns,
     blocks: &mut [Block],
     j: usize,
     buffers: &mut [Vec<u8>],
-    outputs: &Places,
 )
     // Block j has the shape of the plan, and r is one of its classes.
     requires place { j < length blocks.old }
@@ -263,30 +248,28 @@ fn add_one(
     requires class { r < plan.now.classes }
     requires levels { (outputs_at blocks.old j).sums.levels ≡ plan.now.levels }
     requires words { (outputs_at blocks.old j).sums.words ≡ plan.now.columns }
-    // One block of columns at most, inside the outputs, which lie inside the buffers.
-    requires order { from ≤ to }
-    requires columns { to ≤ from + plan.now.columns }
-    requires inside { to ≤ outputs.now.words }
-    requires room { LieWithin outputs.now.words outputs.now.places.now (lists_of buffers.old) }
+    // One block of columns at most, and the outputs lie inside the buffers.
+    requires columns { columns.now.to ≤ columns.now.from + plan.now.columns }
+    requires room { LieWithin columns.now.outputs.words columns.now.outputs.places.now
+        (lists_of buffers.old) }
     // The part of class r is added to the outputs of block j and to nothing else. Only its sums change.
     ensures kept { OneBecomes Keeps j blocks.old blocks.new }
-    ensures added { AddsAt outputs.now.places.now outputs.now.words
-        (block_part (cut_of plan.now) plan.now.block r from to (outputs_at blocks.old j) j)
+    ensures added { AddsAt columns.now.outputs.places.now columns.now.outputs.words
+        (block_part (cut_of plan.now) plan.now.block r columns.now.from columns.now.to
+        (outputs_at blocks.old j) j)
         (lists_of buffers.old) (lists_of buffers.new) }
 {
-    blocks[j].add_to(gf, plan, r, from, to, buffers, outputs, j * plan.block);
+    blocks[j].add_to(gf, plan, r, columns, buffers, j * plan.block);
 }
 
-/// Turns the sums that all blocks gathered for class r into outputs, and adds these in columns `from` up to `to`.
+/// Turns the sums that all blocks gathered for class r into outputs, and adds these in these columns.
 pub(crate) fn add_all(
     gf: &Gf,
     plan: &Plan,
     r: usize,
-    from: usize,
-    to: usize,
+    columns: &Columns,
     blocks: &mut [Block],
     buffers: &mut [Vec<u8>],
-    outputs: &Places,
 )
     // All blocks have the shape of the plan, and r is one of its classes.
     requires few { length blocks.old * plan.now.block ≤ 2 ^ 34 }
@@ -297,19 +280,19 @@ pub(crate) fn add_all(
         → (outputs_at blocks.old j).sums.levels ≡ plan.now.levels }
     requires words { (j : ℕ) → j < length blocks.old
         → (outputs_at blocks.old j).sums.words ≡ plan.now.columns }
-    // One block of columns at most, inside the outputs, which lie inside the buffers.
-    requires order { from ≤ to }
-    requires columns { to ≤ from + plan.now.columns }
-    requires inside { to ≤ outputs.now.words }
-    requires room { LieWithin outputs.now.words outputs.now.places.now (lists_of buffers.old) }
+    // One block of columns at most, and the outputs lie inside the buffers.
+    requires columns { columns.now.to ≤ columns.now.from + plan.now.columns }
+    requires room { LieWithin columns.now.outputs.words columns.now.outputs.places.now
+        (lists_of buffers.old) }
     // Each output gets the sum of the parts of all blocks. Only the sums of the blocks change.
     ensures kept { EachBlock Keeps blocks.old blocks.new }
-    ensures added { AddsAt outputs.now.places.now outputs.now.words
+    ensures added { AddsAt columns.now.outputs.places.now columns.now.outputs.words
         (λ t p. field_sum (length blocks.old) (λ j.
-        block_part (cut_of plan.now) plan.now.block r from to (outputs_at blocks.old j) j t p))
+        block_part (cut_of plan.now) plan.now.block r columns.now.from columns.now.to
+        (outputs_at blocks.old j) j t p))
         (lists_of buffers.old) (lists_of buffers.new) }
 {
     for j in 0..blocks.len() {
-        add_one(gf, plan, r, from, to, blocks, j, buffers, outputs);
+        add_one(gf, plan, r, columns, blocks, j, buffers);
     }
 }

@@ -17,7 +17,7 @@ use crate::basis::point_number;
 use crate::cosets::{list, values_in_coset};
 use crate::levels::to_combinations;
 use crate::numerators::{Numerators, word_or_zero};
-use crate::outputs::{Places, add_to_output};
+use crate::outputs::{Columns, Places};
 use crate::plan::columns_for;
 use crate::recovery::whole_buffers;
 use crate::rows::Rows;
@@ -114,33 +114,30 @@ impl<'a> Locator<'a> {
         values_in_coset(self.gf, rows, Some(&self.next), self.levels, coset as u16);
     }
 
-    // Adds the value at point j, times its factor, to output j in columns `from` up to `to`, if the point is in the
-    // coset whose values are in the rows.
+    // Adds the value at point j, times its factor, to output j in these columns, if the point is in the coset whose
+    // values are in the rows.
     fn add_point(
         &self,
         coset: usize,
         j: usize,
-        from: usize,
-        to: usize,
+        columns: &Columns,
         rows: &Rows,
         buffers: &mut [Vec<u8>],
-        outputs: &Places,
     )
         // The coset and the output exist, there is an output for each point, and the rows have the locator's shape.
         requires coset { coset < 2 ^ (16 - self.now.levels) }
-        requires place { j < length outputs.now.places.now }
-        requires count { length outputs.now.places.now ≡ length self.now.points.items }
+        requires place { j < length columns.now.outputs.places.now }
+        requires count { length columns.now.outputs.places.now ≡ length self.now.points.items }
         requires rows { rows.now.levels ≡ self.now.numerators.levels }
-        // These columns fit the rows and lie inside the outputs, which lie inside the buffers.
-        requires order { from ≤ to }
-        requires columns { to ≤ from + rows.now.words }
-        requires inside { to ≤ outputs.now.words }
-        requires room { LieWithin outputs.now.words outputs.now.places.now (lists_of buffers.old) }
+        // These columns fit the rows, and the outputs lie inside the buffers.
+        requires columns { columns.now.to ≤ columns.now.from + rows.now.words }
+        requires room { LieWithin columns.now.outputs.words columns.now.outputs.places.now
+            (lists_of buffers.old) }
         // The scaled value is added to output j if its point is in the coset, and nothing else changes.
-        ensures { AddsAt outputs.now.places.now outputs.now.words (λ t p. within j (j + 1) t
-            (in_coset self.now.numbers.items self.now.levels coset j (within from to p
-            (mul (slice_index self.now.factors.items j) (column rows.now (p - from)
-            (slice_index self.now.numbers.items j - coset * 2 ^ self.now.levels))))))
+        ensures { AddsAt columns.now.outputs.places.now columns.now.outputs.words
+            (λ t p. within j (j + 1) t (in_coset self.now.numbers.items self.now.levels coset j
+            (within columns.now.from columns.now.to p (mul (slice_index self.now.factors.items j)
+            (column rows.now (p - columns.now.from) (slice_index self.now.numbers.items j - coset * 2 ^ self.now.levels))))))
             (lists_of buffers.old) (lists_of buffers.new) }
     {
         let number = word_or_zero(&self.numbers, j) as usize;
@@ -151,92 +148,86 @@ impl<'a> Locator<'a> {
         let u = number - first;
         if u < 1 << self.levels {
             let factor = word_or_zero(&self.factors, j);
-            add_to_output(self.gf, factor, rows.row(u), buffers, outputs, j, from, to);
+            columns.add(self.gf, factor, rows.row(u), buffers, j);
         }
     }
 
-    // Evaluates the numerators at the points in the coset, and adds the values, times their factors, to the outputs of
-    // these points in columns `from` up to `to`.
+    // Evaluates the numerators at the points in the coset, and adds the values, times their factors, to these columns of
+    // the points' outputs.
     fn add_coset(
         &self,
         sources: &[&[u8]],
         coset: usize,
-        from: usize,
-        to: usize,
+        columns: &Columns,
         combinations: &Rows,
         rows: &mut Rows,
         buffers: &mut [Vec<u8>],
-        outputs: &Places,
     )
         // The coset exists, there is an output for each point, and both sets of rows have the locator's shape.
         requires coset { coset < 2 ^ (16 - self.now.levels) }
-        requires count { length outputs.now.places.now ≡ length self.now.points.items }
+        requires count { length columns.now.outputs.places.now ≡ length self.now.points.items }
         requires rows { rows.old.levels ≡ self.now.numerators.levels }
         requires combinations { combinations.now.levels ≡ self.now.numerators.levels }
         requires words { combinations.now.words ≡ rows.old.words }
         // The combinations are the numerators over the sources.
         requires bytes { AreByteLists (byte_lists sources.now) }
         requires numerators { HoldNumerators self.now.levels
-            self.now.numerators.sequence.items (byte_lists sources.now) from combinations.now }
-        // These columns fit the rows and lie inside the outputs, which lie inside the buffers.
-        requires order { from ≤ to }
-        requires columns { to ≤ from + rows.old.words }
-        requires inside { to ≤ outputs.now.words }
-        requires room { LieWithin outputs.now.words outputs.now.places.now (lists_of buffers.old) }
+            self.now.numerators.sequence.items (byte_lists sources.now) columns.now.from combinations.now }
+        // These columns fit the rows, and the outputs lie inside the buffers.
+        requires columns { columns.now.to ≤ columns.now.from + rows.old.words }
+        requires room { LieWithin columns.now.outputs.words columns.now.outputs.places.now
+            (lists_of buffers.old) }
         // The rows keep their shape, so that the next coset can use them.
         ensures levels { rows.new.levels ≡ rows.old.levels }
         ensures words { rows.new.words ≡ rows.old.words }
         // Each output whose point is in the coset gets its sum. Nothing else changes.
-        ensures added { AddsAt outputs.now.places.now outputs.now.words (λ t p.
-            in_coset self.now.numbers.items self.now.levels coset t (within from to p
-            (quotient_sum self.now.numerators.sequence.items self.now.points.items self.now.factors.items
+        ensures added { AddsAt columns.now.outputs.places.now columns.now.outputs.words (λ t p.
+            in_coset self.now.numbers.items self.now.levels coset t
+            (within columns.now.from columns.now.to p (quotient_sum self.now.numerators.sequence.items self.now.points.items self.now.factors.items
             (words_at (byte_lists sources.now) p) t)))
             (lists_of buffers.old) (lists_of buffers.new) }
     {
         self.evaluate(coset, combinations, rows);
-        for j in 0..outputs.len() {
-            self.add_point(coset, j, from, to, rows, buffers, outputs);
+        for j in 0..columns.outputs.len() {
+            self.add_point(coset, j, columns, rows, buffers);
         }
     }
 
-    // Adds the sums to columns `from` up to `to` of the outputs: computes the numerators, then adds coset by coset.
+    // Adds the sums to these columns of the outputs: computes the numerators, then adds coset by coset.
     fn add_columns(
         &self,
         sources: &[&[u8]],
-        from: usize,
-        to: usize,
+        columns: &Columns,
         rows: &mut Rows,
         sums: &mut Rows,
         buffers: &mut [Vec<u8>],
-        outputs: &Places,
     )
         // There is a source for each coefficient and an output for each point, and both sets of rows have the locator's
         // shape.
         requires sources { length sources.now ≡ length self.now.numerators.sequence.items }
-        requires count { length outputs.now.places.now ≡ length self.now.points.items }
+        requires count { length columns.now.outputs.places.now ≡ length self.now.points.items }
         requires rows { rows.old.levels ≡ self.now.numerators.levels }
         requires sums { sums.old.levels ≡ self.now.numerators.levels }
         requires words { rows.old.words ≡ sums.old.words }
-        // These columns fit the rows and lie inside the outputs, which lie inside the buffers.
-        requires order { from ≤ to }
-        requires columns { to ≤ from + rows.old.words }
-        requires inside { to ≤ outputs.now.words }
-        requires room { LieWithin outputs.now.words outputs.now.places.now (lists_of buffers.old) }
+        // These columns fit the rows, and the outputs lie inside the buffers.
+        requires columns { columns.now.to ≤ columns.now.from + rows.old.words }
+        requires room { LieWithin columns.now.outputs.words columns.now.outputs.places.now
+            (lists_of buffers.old) }
         // Both sets of rows keep their shape, so that the next columns can use them.
         ensures rows_levels { rows.new.levels ≡ rows.old.levels }
         ensures rows_words { rows.new.words ≡ rows.old.words }
         ensures sums_levels { sums.new.levels ≡ sums.old.levels }
         ensures sums_words { sums.new.words ≡ sums.old.words }
         // Each output gets its sum in these columns. Nothing else changes.
-        ensures added { AddsAt outputs.now.places.now outputs.now.words (λ t p. within from to p
-            (quotient_sum self.now.numerators.sequence.items self.now.points.items self.now.factors.items
+        ensures added { AddsAt columns.now.outputs.places.now columns.now.outputs.words
+            (λ t p. within columns.now.from columns.now.to p (quotient_sum self.now.numerators.sequence.items self.now.points.items self.now.factors.items
             (words_at (byte_lists sources.now) p) t))
             (lists_of buffers.old) (lists_of buffers.new) }
     {
-        self.numerators.sum(sources, from, rows, sums);
+        self.numerators.sum(sources, columns.from, rows, sums);
         self.combine(sums, rows);
         for coset in 0..1usize << (16 - self.levels) {
-            self.add_coset(sources, coset, from, to, rows, sums, buffers, outputs);
+            self.add_coset(sources, coset, columns, rows, sums, buffers);
         }
     }
 
@@ -257,13 +248,12 @@ impl<'a> Locator<'a> {
             (words_at (byte_lists sources.now) p) t)
             (lists_of buffers.old) (lists_of buffers.new)) }
     {
-        let columns = columns_for(2 << self.numerators.levels, outputs.words, room);
-        let mut rows = Rows::new(alloc, self.numerators.levels, columns)?;
-        let mut sums = Rows::new(alloc, self.numerators.levels, columns)?;
-        for k in 0..outputs.words.div_ceil(columns) {
-            let from = k * columns;
-            let to = from + columns.min(outputs.words - from);
-            self.add_columns(sources, from, to, &mut rows, &mut sums, buffers, outputs);
+        let width = columns_for(2 << self.numerators.levels, outputs.words, room);
+        let mut rows = Rows::new(alloc, self.numerators.levels, width)?;
+        let mut sums = Rows::new(alloc, self.numerators.levels, width)?;
+        for k in 0..outputs.words.div_ceil(width) {
+            let columns = outputs.columns(k, width);
+            self.add_columns(sources, &columns, &mut rows, &mut sums, buffers);
         }
         Ok(())
     }

@@ -13,7 +13,7 @@ use crate::blocks::gather_rows;
 use crate::cosets::values_at_points;
 use crate::exponents::{buffers_fit, bytes_from};
 use crate::levels::power_sums;
-use crate::outputs::{Places, add_to_output};
+use crate::outputs::{Columns, Places};
 use crate::plan::columns_for;
 use crate::recovery::whole_buffers;
 use crate::rows::Rows;
@@ -157,41 +157,38 @@ impl<'a> Numerators<'a> {
         power_sums(self.gf, sums);
     }
 
-    // Adds sum t to output t in columns `from` up to `to`.
+    // Adds sum t to output t in these columns.
     fn add_columns(
         &self,
         sources: &[&[u8]],
-        from: usize,
-        to: usize,
+        columns: &Columns,
         rows: &mut Rows,
         sums: &mut Rows,
         buffers: &mut [Vec<u8>],
-        outputs: &Places,
     )
         // There is a source for each element and a sum for each output, and both sets of rows have a row for each point.
         requires sources { length sources.now ≡ length self.now.sequence.items }
-        requires count { length outputs.now.places.now ≤ self.now.count }
+        requires count { length columns.now.outputs.places.now ≤ self.now.count }
         requires rows { rows.old.levels ≡ self.now.levels }
         requires sums { sums.old.levels ≡ self.now.levels }
         requires words { rows.old.words ≡ sums.old.words }
-        // These columns fit the rows and lie inside the outputs, which lie inside the buffers.
-        requires order { from ≤ to }
-        requires columns { to ≤ from + rows.old.words }
-        requires inside { to ≤ outputs.now.words }
-        requires room { LieWithin outputs.now.words outputs.now.places.now (lists_of buffers.old) }
+        // These columns fit the rows, and the outputs lie inside the buffers.
+        requires columns { columns.now.to ≤ columns.now.from + rows.old.words }
+        requires room { LieWithin columns.now.outputs.words columns.now.outputs.places.now
+            (lists_of buffers.old) }
         // Both sets of rows keep their shape, so that the next columns can use them.
         ensures rows_levels { rows.new.levels ≡ rows.old.levels }
         ensures rows_words { rows.new.words ≡ rows.old.words }
         ensures sums_levels { sums.new.levels ≡ sums.old.levels }
         ensures sums_words { sums.new.words ≡ sums.old.words }
         // Each output gets its sum in these columns. Nothing else changes.
-        ensures added { AddsAt outputs.now.places.now outputs.now.words (λ t p. within from to p
-            (numerator self.now.sequence.items (words_at (byte_lists sources.now) p) t))
+        ensures added { AddsAt columns.now.outputs.places.now columns.now.outputs.words
+            (λ t p. within columns.now.from columns.now.to p (numerator self.now.sequence.items (words_at (byte_lists sources.now) p) t))
             (lists_of buffers.old) (lists_of buffers.new) }
     {
-        self.sum(sources, from, rows, sums);
-        for t in 0..outputs.len() {
-            add_to_output(self.gf, 1, sums.row(t), buffers, outputs, t, from, to);
+        self.sum(sources, columns.from, rows, sums);
+        for t in 0..columns.outputs.len() {
+            columns.add(self.gf, 1, sums.row(t), buffers, t);
         }
     }
 
@@ -211,13 +208,12 @@ impl<'a> Numerators<'a> {
             numerator self.now.sequence.items (words_at (byte_lists sources.now) p) t)
             (lists_of buffers.old) (lists_of buffers.new)) }
     {
-        let columns = columns_for(2 << self.levels, outputs.words, room);
-        let mut rows = Rows::new(alloc, self.levels, columns)?;
-        let mut sums = Rows::new(alloc, self.levels, columns)?;
-        for k in 0..outputs.words.div_ceil(columns) {
-            let from = k * columns;
-            let to = from + columns.min(outputs.words - from);
-            self.add_columns(sources, from, to, &mut rows, &mut sums, buffers, outputs);
+        let width = columns_for(2 << self.levels, outputs.words, room);
+        let mut rows = Rows::new(alloc, self.levels, width)?;
+        let mut sums = Rows::new(alloc, self.levels, width)?;
+        for k in 0..outputs.words.div_ceil(width) {
+            let columns = outputs.columns(k, width);
+            self.add_columns(sources, &columns, &mut rows, &mut sums, buffers);
         }
         Ok(())
     }

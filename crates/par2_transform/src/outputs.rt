@@ -1,6 +1,6 @@
 //! Outputs at their places inside buffers. A buffer may hold several outputs, with other bytes between them.
 
-ghost use Rattle.std.specs.Prelude.{◌≡◌, ◌+◌, ◌-◌, ◌*◌, ◌<◌, ◌≤◌, length, take, drop};
+ghost use Rattle.std.specs.Prelude.{◌≡◌, ◌+◌, ◌-◌, ◌*◌, ◌<◌, ◌≤◌, length, min, take, drop};
 ghost use Rattle.par2_spec.specs.Field.{mul};
 ghost use Rattle.par2_spec.specs.Slices.{word};
 ghost use Rattle.par2_spec.specs.Sums.{OneChanged, list_at, lists_of};
@@ -53,6 +53,32 @@ impl<'a> Places<'a> {
             words: self.words,
         }
     }
+
+    /// Block k of the columns, of `width` columns each. The last block may have fewer.
+    pub(crate) fn columns(&self, k: usize, width: usize) -> Columns<'a>
+        requires { k * width < self.now.words }
+        ensures outputs { result.outputs ≡ self.now }
+        ensures from { result.from ≡ k * width }
+        ensures to { result.to ≡ min self.now.words ((k + 1) * width) }
+    {
+        let words = self.words;
+        let from = k * width;
+        Columns {
+            outputs: *self,
+            from,
+            to: from + width.min(words - from),
+        }
+    }
+}
+
+/// Words `from` up to `to` of each output.
+#[derive(Clone, Copy)]
+pub(crate) struct Columns<'a> {
+    pub(crate) outputs: Places<'a>,
+    pub(crate) from: usize,
+    pub(crate) to: usize,
+    ghost order: { from ≤ to },
+    ghost inside: { to ≤ outputs.words },
 }
 
 // The place of output t.
@@ -64,67 +90,63 @@ fn place_of(places: &[Place], t: usize) -> Place
     places[t]
 }
 
-// Adds the factor times word k of the row to word `from + k`, below word `to`, of the output of `words` words that
-// begins at byte `at`.
-fn add_within(
-    gf: &Gf,
-    factor: &Factor,
-    row: &[u8],
-    bytes: &mut [u8],
-    at: usize,
-    words: usize,
-    from: usize,
-    to: usize,
-)
-    requires order { from ≤ to }
-    requires inside { to ≤ words }
-    requires row { 2 * to ≤ 2 * from + length row.now }
-    requires room { at + 2 * words ≤ length bytes.old }
-    ensures { AddsToPart at words (λ p. within from to p (mul factor.now (word (p - from) row.now)))
-        bytes.old bytes.new }
+// Adds the factor times word k of the row to column `from + k`, for all of the columns, of the output that begins at
+// byte `at`.
+fn add_within(gf: &Gf, factor: &Factor, row: &[u8], bytes: &mut [u8], at: usize, columns: &Columns)
+    requires row { 2 * columns.now.to ≤ 2 * columns.now.from + length row.now }
+    requires room { at + 2 * columns.now.outputs.words ≤ length bytes.old }
+    ensures { AddsToPart at columns.now.outputs.words (λ p. within columns.now.from columns.now.to p
+        (mul factor.now (word (p - columns.now.from) row.now))) bytes.old bytes.new }
 {
-    add_products(gf, factor, row, &mut bytes[at..at + 2 * words], from, to);
+    let output = &mut bytes[at..at + 2 * columns.outputs.words];
+    add_products(gf, factor, row, output, columns.from, columns.to);
 }
 
-// Adds to the output that begins at byte `at` of buffer `i`, as `add_within` does.
+// Adds to the output at this place, as `add_within` does.
 fn add_to_bytes(
     gf: &Gf,
     factor: &Factor,
     row: &[u8],
     buffers: &mut [Vec<u8>],
-    i: usize,
-    at: usize,
-    words: usize,
-    from: usize,
-    to: usize,
+    place: Place,
+    columns: &Columns,
 )
-    // Words `from` up to `to` lie inside the output, and the output inside buffer `i`.
-    requires place { i < length buffers.old }
-    requires order { from ≤ to }
-    requires inside { to ≤ words }
-    requires row { 2 * to ≤ 2 * from + length row.now }
-    requires room { at + 2 * words ≤ length (list_at (lists_of buffers.old) i) }
+    requires place { place.buffer < length buffers.old }
+    requires row { 2 * columns.now.to ≤ 2 * columns.now.from + length row.now }
+    requires room { place.at + 2 * columns.now.outputs.words
+        ≤ length (list_at (lists_of buffers.old) place.buffer) }
     // The products are added to these words, and nothing else changes in any buffer.
-    ensures changed { OneChanged (lists_of buffers.old) (lists_of buffers.new) i }
-    ensures added { AddsToPart at words
-        (λ p. within from to p (mul factor.now (word (p - from) row.now)))
-        (list_at (lists_of buffers.old) i) (list_at (lists_of buffers.new) i) }
+    ensures changed { OneChanged (lists_of buffers.old) (lists_of buffers.new) place.buffer }
+    ensures added { AddsToPart place.at columns.now.outputs.words
+        (λ p. within columns.now.from columns.now.to p
+        (mul factor.now (word (p - columns.now.from) row.now)))
+        (list_at (lists_of buffers.old) place.buffer) (list_at (lists_of buffers.new) place.buffer) }
 {
-    add_within(
-        gf,
-        factor,
-        row,
-        buffers[i].as_mut_slice(),
-        at,
-        words,
-        from,
-        to,
-    );
+    let bytes = buffers[place.buffer].as_mut_slice();
+    add_within(gf, factor, row, bytes, place.at, columns);
 }
 
-/// Adds (exclusive or) c times word k of the row to word `from + k` of output `t`, for the words below word `to`. The
-/// transform adds its outputs with it, and `par2_solve` its sums of products. `within t (t + 1)`: no other output
-/// changes.
+impl<'a> Columns<'a> {
+    /// Adds (exclusive or) c times word k of the row to column `from + k` of output `t`, for all of the columns.
+    /// `within t (t + 1)`: no other output changes.
+    pub(crate) fn add(&self, gf: &Gf, c: u16, row: &[u8], buffers: &mut [Vec<u8>], t: usize)
+        requires place { t < length self.now.outputs.places.now }
+        requires row { 2 * self.now.to ≤ 2 * self.now.from + length row.now }
+        requires room { LieWithin self.now.outputs.words self.now.outputs.places.now
+            (lists_of buffers.old) }
+        ensures { AddsAt self.now.outputs.places.now self.now.outputs.words
+            (λ s p. within t (t + 1) s
+            (within self.now.from self.now.to p (mul c (word (p - self.now.from) row.now))))
+            (lists_of buffers.old) (lists_of buffers.new) }
+    {
+        let place = place_of(self.outputs.places, t);
+        let factor = Factor::new(c);
+        add_to_bytes(gf, &factor, row, buffers, place, self);
+    }
+}
+
+/// Adds (exclusive or) c times word k of the row to word `from + k` of output `t`, for the words below word `to`.
+/// `par2_solve` adds its sums of products with it. `within t (t + 1)`: no other output changes.
 pub fn add_to_output(
     gf: &Gf,
     c: u16,
@@ -146,17 +168,10 @@ pub fn add_to_output(
         (within from to p (mul c (word (p - from) row.now))))
         (lists_of buffers.old) (lists_of buffers.new) }
 {
-    let place = place_of(outputs.places, t);
-    let factor = Factor::new(c);
-    add_to_bytes(
-        gf,
-        &factor,
-        row,
-        buffers,
-        place.buffer,
-        place.at,
-        outputs.words,
+    let columns = Columns {
+        outputs: *outputs,
         from,
         to,
-    );
+    };
+    columns.add(gf, c, row, buffers, t);
 }

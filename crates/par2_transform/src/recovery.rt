@@ -54,13 +54,11 @@ impl<'a> Windows<'a> {
             (lists_of buffers.old) (lists_of buffers.new)) }
     {
         let plan = self.plan;
-        let words = outputs.words;
         let mut rows = Rows::new(alloc, plan.levels, plan.columns)?;
         let mut blocks = blocks_of(alloc, self.gf, &plan, self.first, outputs.len())?;
-        for k in 0..words.div_ceil(plan.columns) {
-            let from = k * plan.columns;
-            let to = from + plan.columns.min(words - from);
-            self.add_classes(from, to, &mut rows, blocks.as_mut_slice(), buffers, outputs);
+        for k in 0..outputs.words.div_ceil(plan.columns) {
+            let columns = outputs.columns(k, plan.columns);
+            self.add_classes(&columns, &mut rows, blocks.as_mut_slice(), buffers);
         }
         Ok(())
     }

@@ -15,7 +15,7 @@ ghost use Rattle.par2_transform.specs.Transforms.{Reaches, coefficient_of};
 use crate::blocks::{Block, add_all, clear_all, gather_all};
 use crate::cosets::values_at_points;
 use crate::exponents::{Slices, bytes_from};
-use crate::outputs::Places;
+use crate::outputs::Columns;
 use crate::plan::Plan;
 use crate::powers::chirp_inverse;
 use crate::rows::Rows;
@@ -160,16 +160,14 @@ impl<'a> Windows<'a> {
         }
     }
 
-    // Adds the part of class r to columns `from` up to `to` of the outputs. The first of three classes has no slice.
+    // Adds the part of class r to these columns of the outputs. The first of three classes has no slice.
     fn add_class(
         &self,
         r: usize,
-        from: usize,
-        to: usize,
+        columns: &Columns,
         rows: &mut Rows,
         blocks: &mut [Block],
         buffers: &mut [Vec<u8>],
-        outputs: &Places,
     )
         // The class is the plan's, and the rows and the blocks have its shape.
         requires class { r < self.now.plan.classes }
@@ -178,13 +176,13 @@ impl<'a> Windows<'a> {
         requires blocks { AreBlocks (cut_of self.now.plan) self.now.plan.columns self.now.first
             self.now.plan.block blocks.old }
         // The blocks cover the outputs.
-        requires covered { length outputs.now.places.now ≤ length blocks.old * self.now.plan.block }
+        requires covered { length columns.now.outputs.places.now
+            ≤ length blocks.old * self.now.plan.block }
         requires few { self.now.first + length blocks.old * self.now.plan.block ≤ 2 ^ 34 }
-        // One block of columns at most, inside the outputs, which lie inside the buffers.
-        requires order { from ≤ to }
-        requires columns { to ≤ from + self.now.plan.columns }
-        requires inside { to ≤ outputs.now.words }
-        requires room { LieWithin outputs.now.words outputs.now.places.now (lists_of buffers.old) }
+        // One block of columns at most, and the outputs lie inside the buffers.
+        requires columns { columns.now.to ≤ columns.now.from + self.now.plan.columns }
+        requires room { LieWithin columns.now.outputs.words columns.now.outputs.places.now
+            (lists_of buffers.old) }
         // The rows and the blocks keep their shape, so that the next class can use them.
         ensures levels { rows.new.levels ≡ rows.old.levels }
         ensures words { rows.new.words ≡ rows.old.words }
@@ -192,27 +190,25 @@ impl<'a> Windows<'a> {
         ensures blocks { AreBlocks (cut_of self.now.plan) self.now.plan.columns
             self.now.first self.now.plan.block blocks.new }
         // The part of class r is added to these columns and to nothing else.
-        ensures added { AddsAt outputs.now.places.now outputs.now.words (λ t p. within from to p
-            (class_sum_at (cut_of self.now.plan) (words_at self.now.slices p)
+        ensures added { AddsAt columns.now.outputs.places.now columns.now.outputs.words
+            (λ t p. within columns.now.from columns.now.to p (class_sum_at (cut_of self.now.plan) (words_at self.now.slices p)
             (self.now.first + t) r))
             (lists_of buffers.old) (lists_of buffers.new) }
     {
         if r == 0 && self.plan.classes == 3 {
             return;
         }
-        self.gather(r, from, rows, blocks);
-        add_all(self.gf, &self.plan, r, from, to, blocks, buffers, outputs);
+        self.gather(r, columns.from, rows, blocks);
+        add_all(self.gf, &self.plan, r, columns, blocks, buffers);
     }
 
-    /// Adds the recovery slices to columns `from` up to `to` of the outputs, class by class.
+    /// Adds the recovery slices to these columns of the outputs, class by class.
     pub(crate) fn add_classes(
         &self,
-        from: usize,
-        to: usize,
+        columns: &Columns,
         rows: &mut Rows,
         blocks: &mut [Block],
         buffers: &mut [Vec<u8>],
-        outputs: &Places,
     )
         // The rows and the blocks have the shape of the plan.
         requires levels { rows.old.levels ≡ self.now.plan.levels }
@@ -220,13 +216,13 @@ impl<'a> Windows<'a> {
         requires blocks { AreBlocks (cut_of self.now.plan) self.now.plan.columns self.now.first
             self.now.plan.block blocks.old }
         // The blocks cover the outputs.
-        requires covered { length outputs.now.places.now ≤ length blocks.old * self.now.plan.block }
+        requires covered { length columns.now.outputs.places.now
+            ≤ length blocks.old * self.now.plan.block }
         requires few { self.now.first + length blocks.old * self.now.plan.block ≤ 2 ^ 34 }
-        // One block of columns at most, inside the outputs, which lie inside the buffers.
-        requires order { from ≤ to }
-        requires columns { to ≤ from + self.now.plan.columns }
-        requires inside { to ≤ outputs.now.words }
-        requires room { LieWithin outputs.now.words outputs.now.places.now (lists_of buffers.old) }
+        // One block of columns at most, and the outputs lie inside the buffers.
+        requires columns { columns.now.to ≤ columns.now.from + self.now.plan.columns }
+        requires room { LieWithin columns.now.outputs.words columns.now.outputs.places.now
+            (lists_of buffers.old) }
         // The rows and the blocks keep their shape, so that the next columns can use them.
         ensures levels { rows.new.levels ≡ rows.old.levels }
         ensures words { rows.new.words ≡ rows.old.words }
@@ -234,12 +230,12 @@ impl<'a> Windows<'a> {
         ensures blocks { AreBlocks (cut_of self.now.plan) self.now.plan.columns
             self.now.first self.now.plan.block blocks.new }
         // The recovery slices are added in these columns, and nothing else changes.
-        ensures added { AddsAt outputs.now.places.now outputs.now.words (λ t p. within from to p
-            (recovered self.now.slices (self.now.first + t) p))
+        ensures added { AddsAt columns.now.outputs.places.now columns.now.outputs.words
+            (λ t p. within columns.now.from columns.now.to p (recovered self.now.slices (self.now.first + t) p))
             (lists_of buffers.old) (lists_of buffers.new) }
     {
         for r in 0..self.plan.classes {
-            self.add_class(r, from, to, rows, blocks, buffers, outputs);
+            self.add_class(r, columns, rows, blocks, buffers);
         }
     }
 }

@@ -23,5 +23,5 @@ returns-clause-kept c = one_set Keeps c.args.blocks.now c.args.j c.index-blocks-
 pub returns-clause-added : goal.returns-clause-added
 returns-clause-added c =
     let plan = c.args.plan.now in
-    subst (λ b. AddsAt c.args.outputs.now.places.now c.args.outputs.now.words (block_part (cut_of plan) plan.block c.args.r c.args.from c.args.to b c.args.j) (lists_of c.args.buffers.now) (lists_of c.add_to.new.buffers))
+    subst (λ b. AddsAt c.args.columns.now.outputs.places.now c.args.columns.now.outputs.words (block_part (cut_of plan) plan.block c.args.r c.args.columns.now.from c.args.columns.now.to b c.args.j) (lists_of c.args.buffers.now) (lists_of c.add_to.new.buffers))
     (is_block_at c.args.blocks.now c.args.j c.index-blocks-j.result c.requires.place) c.add_to.ensures.added

@@ -2,12 +2,12 @@ use Rattle.par2_transform.proofs.Common.{rules, ◌≡◌, ◌∙◌, length, ge
 use Rattle.par2_transform.proofs.outputs.add_to_bytes.Goals as goal
 
 pub returns-clause-changed : goal.returns-clause-changed
-returns-clause-changed c = written_changed c.args.buffers.now c.args.i _
+returns-clause-changed c = written_changed c.args.buffers.now c.args.place.buffer _
 
 pub returns-clause-added : goal.returns-clause-added
 returns-clause-added c =
-    let was = get_or c.args.buffers.now c.args.i c.index-buffers-i.result in
+    let was = get_or c.args.buffers.now c.args.place.buffer c.index-buffers-place.result in
     let size : length c.add_within.new.bytes ≡ was.len = search rules in
-    let after = written_here c.args.buffers.now c.args.i (with_items was c.add_within.new.bytes) c.requires.place ∙ with_items_is was c.add_within.new.bytes size in
-    let before : c.as_mut_slice.result.now ≡ list_at (lists_of c.args.buffers.now) c.args.i = search (rules, read_at) in
+    let after = written_here c.args.buffers.now c.args.place.buffer (with_items was c.add_within.new.bytes) c.requires.place ∙ with_items_is was c.add_within.new.bytes size in
+    let before : c.as_mut_slice-bytes.result.now ≡ list_at (lists_of c.args.buffers.now) c.args.place.buffer = search (rules, read_at) in
     rw (after, ← before) c.add_within.ensures

@@ -9,7 +9,7 @@ loop-coset-init c =
     record {
       levels = c.sum.ensures.numerators.levels;
       words = c.sum.ensures.numerators.words;
-      added = no_coset c.args.outputs.now.places.now c.args.outputs.now.words self.numbers.items self.levels c.args.from c.args.to (λ t p. quotient_sum self.numerators.sequence.items self.points.items self.factors.items (words_at (byte_lists c.args.sources.now) p) t) (lists_of c.args.buffers.now);
+      added = no_coset c.args.columns.now.outputs.places.now c.args.columns.now.outputs.words self.numbers.items self.levels c.args.columns.now.from c.args.columns.now.to (λ t p. quotient_sum self.numerators.sequence.items self.points.items self.factors.items (words_at (byte_lists c.args.sources.now) p) t) (lists_of c.args.buffers.now);
     }
 
 pub add_coset-requires : goal.add_coset-requires
@@ -29,12 +29,10 @@ add_coset-requires c =
       numerators = λ k x low hx.
           let here : k < c.args.sums.now.words = omega (arith, low, combinations.words, c.sum.ensures.words, c.requires.words) in
           combinations.each k x (omega (arith, low, combinations.words)) hx
-          ∙ field_sum_same n (λ t. mul (column c.sum.new.sums k t) (pow x t)) (λ t. mul (numerator self.numerators.sequence.items (words_at (byte_lists c.args.sources.now) (c.args.from + k)) t) (pow x t))
+          ∙ field_sum_same n (λ t. mul (column c.sum.new.sums k t) (pow x t)) (λ t. mul (numerator self.numerators.sequence.items (words_at (byte_lists c.args.sources.now) (c.args.columns.now.from + k)) t) (pow x t))
           (λ t h. ap (λ v. mul v (pow x t)) (numerators.each k t here (omega (arith, h, self.whole))));
-      order = c.requires.order;
       columns = omega (arith, c.requires.columns, c.requires.words, l.invariant.words);
-      inside = c.requires.inside;
-      room = still_within c.args.outputs.now.places.now c.args.outputs.now.words c.args.outputs.now.words _ (lists_of c.args.buffers.now) (lists_of l.buffers) l.invariant.added c.requires.room;
+      room = still_within c.args.columns.now.outputs.places.now c.args.columns.now.outputs.words c.args.columns.now.outputs.words _ (lists_of c.args.buffers.now) (lists_of l.buffers) l.invariant.added c.requires.room;
     }
 
 pub loop-coset-preserved : goal.loop-coset-preserved
@@ -44,7 +42,7 @@ loop-coset-preserved c =
     record {
       levels = c.add_coset.ensures.levels ∙ l.invariant.levels;
       words = c.add_coset.ensures.words ∙ l.invariant.words;
-      added = next_coset c.args.outputs.now.places.now c.args.outputs.now.words self.numbers.items self.levels c.args.from c.args.to l.coset (λ t p. quotient_sum self.numerators.sequence.items self.points.items self.factors.items (words_at (byte_lists c.args.sources.now) p) t)
+      added = next_coset c.args.columns.now.outputs.places.now c.args.columns.now.outputs.words self.numbers.items self.levels c.args.columns.now.from c.args.columns.now.to l.coset (λ t p. quotient_sum self.numerators.sequence.items self.points.items self.factors.items (words_at (byte_lists c.args.sources.now) p) t)
           (lists_of c.args.buffers.now) (lists_of l.buffers) (lists_of c.add_coset.new.buffers) l.invariant.added c.add_coset.ensures.added;
     }
 
@@ -65,5 +63,5 @@ returns-clause-added c =
     let self = c.args.self.now in
     let l = c.loop-coset in
     let end : l.coset ≡ 2 ^ (16 - self.levels) = omega (arith, c.loop-coset-test.false, c.loop-coset.auto.coset-end, shifted_most (16 - self.levels) (omega arith)) in
-    all_cosets c.args.outputs.now.places.now c.args.outputs.now.words self.numbers.items self.levels c.args.from c.args.to l.coset (λ t p. quotient_sum self.numerators.sequence.items self.points.items self.factors.items (words_at (byte_lists c.args.sources.now) p) t)
+    all_cosets c.args.columns.now.outputs.places.now c.args.columns.now.outputs.words self.numbers.items self.levels c.args.columns.now.from c.args.columns.now.to l.coset (λ t p. quotient_sum self.numerators.sequence.items self.points.items self.factors.items (words_at (byte_lists c.args.sources.now) p) t)
     (lists_of c.args.buffers.now) (lists_of l.buffers) (omega (arith, self.few, self.numerators.few)) end self.numbered.small l.invariant.added

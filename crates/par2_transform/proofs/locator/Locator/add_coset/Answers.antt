@@ -5,35 +5,33 @@ use Rattle.par2_transform.proofs.locator.Locator.add_coset.Goals as goal
 
 pub add_point-requires : goal.add_point-requires
 add_point-requires c =
-    let low : c.loop-j.j < length c.args.outputs.now.places.now = search rules in
+    let low : c.loop-j.j < length c.args.columns.now.outputs.places.now = search rules in
     record {
       coset = c.requires.coset;
       place = low;
       count = c.requires.count;
       rows = c.evaluate.ensures.levels ∙ c.requires.rows;
-      order = c.requires.order;
-      columns = subst (λ n. c.args.to ≤ c.args.from + n) (sym c.evaluate.ensures.words) c.requires.columns;
-      inside = c.requires.inside;
-      room = still_within c.args.outputs.now.places.now c.args.outputs.now.words c.args.outputs.now.words _ (lists_of c.args.buffers.now) (lists_of c.loop-j.buffers) c.loop-j.invariant c.requires.room;
+      columns = subst (λ n. c.args.columns.now.to ≤ c.args.columns.now.from + n) (sym c.evaluate.ensures.words) c.requires.columns;
+      room = still_within c.args.columns.now.outputs.places.now c.args.columns.now.outputs.words c.args.columns.now.outputs.words _ (lists_of c.args.buffers.now) (lists_of c.loop-j.buffers) c.loop-j.invariant c.requires.room;
     }
 
 pub loop-j-init : goal.loop-j-init
 loop-j-init c =
     let self = c.args.self.now in
-    none_added_yet c.args.outputs.now.places.now c.args.outputs.now.words
-    (coset_part self.numbers.items self.levels c.args.coset c.args.from c.args.to (λ t p. quotient_sum self.numerators.sequence.items self.points.items self.factors.items (words_at (byte_lists c.args.sources.now) p) t)) (lists_of c.args.buffers.now)
+    none_added_yet c.args.columns.now.outputs.places.now c.args.columns.now.outputs.words
+    (coset_part self.numbers.items self.levels c.args.coset c.args.columns.now.from c.args.columns.now.to (λ t p. quotient_sum self.numerators.sequence.items self.points.items self.factors.items (words_at (byte_lists c.args.sources.now) p) t)) (lists_of c.args.buffers.now)
 
 pub loop-j-preserved : goal.loop-j-preserved
 loop-j-preserved c =
     let self = c.args.self.now in
     let sources = byte_lists c.args.sources.now in
     let rows = c.evaluate.new.rows in
-    let low : c.loop-j.j < length c.args.outputs.now.places.now = search rules in
-    next_point c.args.outputs.now.places.now c.args.outputs.now.words self.numbers.items self.levels c.args.coset c.args.from c.args.to c.loop-j.j (λ t p. quotient_sum self.numerators.sequence.items self.points.items self.factors.items (words_at sources p) t)
-    (λ j p. mul (get_or self.factors.items j 0) (column rows (p - c.args.from) (get_or self.numbers.items j 0 - c.args.coset * 2 ^ self.levels)))
+    let low : c.loop-j.j < length c.args.columns.now.outputs.places.now = search rules in
+    next_point c.args.columns.now.outputs.places.now c.args.columns.now.outputs.words self.numbers.items self.levels c.args.coset c.args.columns.now.from c.args.columns.now.to c.loop-j.j (λ t p. quotient_sum self.numerators.sequence.items self.points.items self.factors.items (words_at sources p) t)
+    (λ j p. mul (get_or self.factors.items j 0) (column rows (p - c.args.columns.now.from) (get_or self.numbers.items j 0 - c.args.coset * 2 ^ self.levels)))
     (lists_of c.args.buffers.now) (lists_of c.loop-j.buffers) (lists_of c.add_point.new.buffers) c.loop-j.invariant c.add_point.ensures
     (λ p from_here high first last.
-    given_is self.numerators.sequence.items self.points.items self.factors.items self.numbers.items self.next.items sources self.levels c.args.coset c.args.from c.args.combinations.now c.args.rows.now rows
+    given_is self.numerators.sequence.items self.points.items self.factors.items self.numbers.items self.next.items sources self.levels c.args.coset c.args.columns.now.from c.args.combinations.now c.args.rows.now rows
     c.requires.bytes self.numerators.elements self.elements.points_fit self.elements.factors_fit self.numbered c.evaluate.ensures c.requires.words c.requires.numerators
     c.loop-j.j p (omega (arith, low, c.requires.count)) from_here (omega (arith, high, c.requires.columns)) first last)
 
@@ -46,7 +44,7 @@ returns-clause-words c = c.evaluate.ensures.words
 pub returns-clause-added : goal.returns-clause-added
 returns-clause-added c =
     let self = c.args.self.now in
-    let end : length c.args.outputs.now.places.now ≡ c.loop-j.j = search rules in
-    all_added c.args.outputs.now.places.now c.args.outputs.now.words c.loop-j.j
-    (coset_part self.numbers.items self.levels c.args.coset c.args.from c.args.to (λ t p. quotient_sum self.numerators.sequence.items self.points.items self.factors.items (words_at (byte_lists c.args.sources.now) p) t))
+    let end : length c.args.columns.now.outputs.places.now ≡ c.loop-j.j = search rules in
+    all_added c.args.columns.now.outputs.places.now c.args.columns.now.outputs.words c.loop-j.j
+    (coset_part self.numbers.items self.levels c.args.coset c.args.columns.now.from c.args.columns.now.to (λ t p. quotient_sum self.numerators.sequence.items self.points.items self.factors.items (words_at (byte_lists c.args.sources.now) p) t))
     (lists_of c.args.buffers.now) (lists_of c.loop-j.buffers) end c.loop-j.invariant

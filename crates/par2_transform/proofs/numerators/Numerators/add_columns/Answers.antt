@@ -4,7 +4,7 @@ use Rattle.par2_transform.proofs.numerators.Numerators.add_columns.Goals as goal
 
 pub loop-t-init : goal.loop-t-init
 loop-t-init c =
-    none_added_yet c.args.outputs.now.places.now c.args.outputs.now.words (λ t p. within c.args.from c.args.to p (numerator c.args.self.now.sequence.items (words_at (byte_lists c.args.sources.now) p) t)) (lists_of c.args.buffers.now)
+    none_added_yet c.args.columns.now.outputs.places.now c.args.columns.now.outputs.words (λ t p. within c.args.columns.now.from c.args.columns.now.to p (numerator c.args.self.now.sequence.items (words_at (byte_lists c.args.sources.now) p) t)) (lists_of c.args.buffers.now)
 
 pub loop-t-preserved : goal.loop-t-preserved
 loop-t-preserved c =
@@ -12,13 +12,13 @@ loop-t-preserved c =
     let l = c.loop-t in
     let sources = byte_lists c.args.sources.now in
     let numerators = c.sum.ensures.numerators in
-    let low : l.t < length c.args.outputs.now.places.now = search rules in
-    next_row_added c.args.outputs.now.places.now c.args.outputs.now.words c.args.from c.args.to l.t (λ t p. numerator self.sequence.items (words_at sources p) t) c.row.result.now (lists_of c.args.buffers.now) (lists_of l.buffers) (lists_of c.add_to_output.new.buffers)
-    l.invariant c.add_to_output.ensures
+    let low : l.t < length c.args.columns.now.outputs.places.now = search rules in
+    next_row_added c.args.columns.now.outputs.places.now c.args.columns.now.outputs.words c.args.columns.now.from c.args.columns.now.to l.t (λ t p. numerator self.sequence.items (words_at sources p) t) c.row.result.now (lists_of c.args.buffers.now) (lists_of l.buffers) (lists_of c.add.new.buffers)
+    l.invariant c.add.ensures
     (λ p first last.
-    let place : c.args.from + (p - c.args.from) ≡ p = omega (arith, first) in
+    let place : c.args.columns.now.from + (p - c.args.columns.now.from) ≡ p = omega (arith, first) in
     ap (mul 1)
-    (c.row.ensures.words (p - c.args.from)
-    ∙ numerators.each (p - c.args.from) l.t (omega (arith, first, last, c.requires.columns, c.requires.words)) (omega (arith, low, c.requires.count))
+    (c.row.ensures.words (p - c.args.columns.now.from)
+    ∙ numerators.each (p - c.args.columns.now.from) l.t (omega (arith, first, last, c.requires.columns, c.requires.words)) (omega (arith, low, c.requires.count))
     ∙ ap (λ q. numerator self.sequence.items (words_at sources q) l.t) place)
     ∙ one_times (numerator self.sequence.items (words_at sources p) l.t) (numerator-lt self.sequence.items sources p l.t c.sum.ensures.bytes self.elements))

@@ -1,41 +1,23 @@
-use Rattle.par2_transform.proofs.Common.{◌+◌, ◌-◌, ◌*◌, ◌≤◌, ◌≡◌, ◌∙◌, sym, ap, subst, arith, min, div_ceil_times, lists_of, byte_lists, words_at, numerator}
-use Rattle.par2_transform.proofs.AddingLaws.{still_within}
-use Rattle.par2_transform.proofs.ColumnLaws.{begins, ends}
-use Rattle.par2_transform.proofs.LocatorLaws.{no_words, next_words, all_words}
+use Rattle.par2_transform.proofs.Common.{◌∙◌, ◌≡◌, ◌≤◌, sym, subst, arith, length, lists_of, byte_lists, words_at, numerator, Places}
+use Rattle.par2_transform.proofs.ColumnLaws.{begins, columns_within, no_words, next_words, all_words}
 use Rattle.par2_transform.proofs.numerators.Numerators.add_words.Goals as goal
 
-pub overflow_mul-from : goal.overflow_mul-from
-overflow_mul-from c =
-    let low = begins c.args.outputs.now.words c.columns_for-columns.result c.loop-k.k c.div_ceil-k-end.result (let some = c.columns_for-columns.ensures.0 in some) c.div_ceil-k-end.ensures c.loop-k-test.true in
-    omega (arith, low)
-
-pub overflow_sub-outputs : goal.overflow_sub-outputs
-overflow_sub-outputs c =
-    let low = begins c.args.outputs.now.words c.columns_for-columns.result c.loop-k.k c.div_ceil-k-end.result (let some = c.columns_for-columns.ensures.0 in some) c.div_ceil-k-end.ensures c.loop-k-test.true in
-    omega (arith, low)
-
-pub overflow_add-to : goal.overflow_add-to
-overflow_add-to c =
-    let columns = c.columns_for-columns.result in
-    let low = begins c.args.outputs.now.words columns c.loop-k.k c.div_ceil-k-end.result (let some = c.columns_for-columns.ensures.0 in some) c.div_ceil-k-end.ensures c.loop-k-test.true in
-    let high = ends c.args.outputs.now.words (c.loop-k.k * columns) columns c.min.result low c.min.ensures in
-    omega (arith, high)
+pub columns-columns-requires : goal.columns-columns-requires
+columns-columns-requires c = begins c.args.outputs.now.words c.columns_for-width.result c.loop-k.k c.div_ceil-k-end.result (let some = c.columns_for-width.ensures.0 in some) c.div_ceil-k-end.ensures c.loop-k-test.true
 
 pub add_columns-requires : goal.add_columns-requires
 add_columns-requires c =
-    let columns = c.columns_for-columns.result in
     let l = c.loop-k in
-    let low = begins c.args.outputs.now.words columns l.k c.div_ceil-k-end.result (let some = c.columns_for-columns.ensures.0 in some) c.div_ceil-k-end.ensures c.loop-k-test.true in
+    let outputs = c.args.outputs.now in
+    let is = c.columns-columns.ensures in
     record {
       sources = c.requires.sources;
-      count = c.requires.count;
+      count = subst (λ (o : Places). length o.places.now ≤ c.args.self.now.count) (sym is.outputs) c.requires.count;
       rows = l.invariant.rows_levels;
       sums = l.invariant.sums_levels;
       words = l.invariant.rows_words ∙ sym l.invariant.sums_words;
-      order = omega arith;
-      columns = omega (arith, c.min.ensures, l.invariant.rows_words);
-      inside = ends c.args.outputs.now.words (l.k * columns) columns c.min.result low c.min.ensures;
-      room = still_within c.args.outputs.now.places.now c.args.outputs.now.words c.args.outputs.now.words _ (lists_of c.args.buffers.now) (lists_of l.buffers) l.invariant.added c.requires.room;
+      columns = omega (arith, is.from, is.to, l.invariant.rows_words);
+      room = columns_within outputs c.columns-columns.result _ (lists_of c.args.buffers.now) (lists_of l.buffers) is.outputs l.invariant.added c.requires.room;
     }
 
 pub loop-k-init : goal.loop-k-init
@@ -46,32 +28,29 @@ loop-k-init c =
       rows_words = c.in_ok-rows.ensures.words;
       sums_levels = c.in_ok-sums.ensures.levels;
       sums_words = c.in_ok-sums.ensures.words;
-      added = no_words c.args.outputs.now.places.now c.args.outputs.now.words c.columns_for-columns.result (λ t p. numerator self.sequence.items (words_at (byte_lists c.args.sources.now) p) t) (lists_of c.args.buffers.now);
+      added = no_words c.args.outputs.now c.columns_for-width.result (λ t p. numerator self.sequence.items (words_at (byte_lists c.args.sources.now) p) t) (lists_of c.args.buffers.now);
     }
 
 pub loop-k-preserved : goal.loop-k-preserved
 loop-k-preserved c =
     let self = c.args.self.now in
-    let columns = c.columns_for-columns.result in
+    let width = c.columns_for-width.result in
     let l = c.loop-k in
+    let is = c.columns-columns.ensures in
     let e = c.add_columns.ensures in
-    let low = begins c.args.outputs.now.words columns l.k c.div_ceil-k-end.result (let some = c.columns_for-columns.ensures.0 in some) c.div_ceil-k-end.ensures c.loop-k-test.true in
-    let place : l.k * columns + c.min.result ≡ l.k * columns + min columns (c.args.outputs.now.words - l.k * columns) = ap (λ n. l.k * columns + n) c.min.ensures in
+    let low = begins c.args.outputs.now.words width l.k c.div_ceil-k-end.result (let some = c.columns_for-width.ensures.0 in some) c.div_ceil-k-end.ensures c.loop-k-test.true in
     record {
       rows_levels = e.rows_levels ∙ l.invariant.rows_levels;
       rows_words = e.rows_words ∙ l.invariant.rows_words;
       sums_levels = e.sums_levels ∙ l.invariant.sums_levels;
       sums_words = e.sums_words ∙ l.invariant.sums_words;
-      added = next_words c.args.outputs.now.places.now c.args.outputs.now.words columns l.k (l.k * columns + c.min.result) (λ t p. numerator self.sequence.items (words_at (byte_lists c.args.sources.now) p) t)
-          (lists_of c.args.buffers.now) (lists_of l.buffers) (lists_of c.add_columns.new.buffers) l.invariant.added low place e.added;
+      added = next_words c.args.outputs.now c.columns-columns.result width l.k (λ t p. numerator self.sequence.items (words_at (byte_lists c.args.sources.now) p) t) (lists_of c.args.buffers.now) (lists_of l.buffers) (lists_of c.add_columns.new.buffers)
+          l.invariant.added low is.outputs is.from is.to e.added;
     }
 
 pub returns : goal.returns
 returns c =
     let self = c.args.self.now in
-    let columns = c.columns_for-columns.result in
-    let words = c.args.outputs.now.words in
-    let k = c.loop-k.k in
-    let end : k ≡ c.div_ceil-k-end.result = omega (arith, c.loop-k-test.false, c.loop-k.auto.k-end) in
-    let enough : words ≤ k * columns = subst (λ n. words ≤ n * columns) (sym (end ∙ c.div_ceil-k-end.ensures)) (div_ceil_times words columns (let some = c.columns_for-columns.ensures.0 in omega (arith, some))).0 in
-    all_words c.args.outputs.now.places.now words columns k (λ t p. numerator self.sequence.items (words_at (byte_lists c.args.sources.now) p) t) (lists_of c.args.buffers.now) (lists_of c.loop-k.buffers) enough c.loop-k.invariant.added
+    let l = c.loop-k in
+    let end : l.k ≡ c.div_ceil-k-end.result = omega (arith, c.loop-k-test.false, l.auto.k-end) in
+    all_words c.args.outputs.now c.columns_for-width.result l.k (λ t p. numerator self.sequence.items (words_at (byte_lists c.args.sources.now) p) t) (lists_of c.args.buffers.now) (lists_of l.buffers) (let some = c.columns_for-width.ensures.0 in some) (end ∙ c.div_ceil-k-end.ensures) l.invariant.added
