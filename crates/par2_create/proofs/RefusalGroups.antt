@@ -1,7 +1,6 @@
 -- The refusal of a create, by its groups of causes.
 use Rattle.par2_create.proofs.Common.{◌≡◌, ℕ, List, [], ◌∷◌, length, sym, ap, ap₂, ◌∙◌, nat_lt, not, ◌&&◌, Bool, arith, Option, ◌==◌, sum_by, list_any, fault_where, fault_at, first_fault, is_name, is_par_name, slice_count, is_slice_size, are_counts, bad_name, head_fault, create_refusal, refusal, early_refusal, duplicate_input, long_name, existing, files_fault, ids_fault, inputs_fault, BadSliceSize, BadCount, BadBase, NoInput, NoSuchFile, EmptyFile, TooManySlices, map-map, option_map, position, position-map, Folder, File, has, bytes_of, is_some, refl, None, Some, ◌+◌, volume_numbers, CreateArgs, Create, files_of, outputs_of, any-map, Fault, volume_at, output_names, names_of_outputs}
 use Rattle.std.specs.Prelude.{unwrap_or}
-use Rattle.std.specs.FinMap.{get}
 
 any_output : (folder : Folder) (a : CreateArgs) (test : List ℕ → Bool) → list_any (λ file. test file.0) (outputs_of folder a) ≡ list_any test (output_names a)
 any_output folder a test =
@@ -15,16 +14,12 @@ grouped : {F : Type 0} (size counts base no_input bad again absent empty many id
 grouped size counts base no_input bad again absent empty many ids long there = grind arith
 
 -- an absent file has no bytes
-absent_is : (folder : Folder) (name : List ℕ) → (length (bytes_of folder name) == 0 && not (has folder name)) ≡ not (has folder name)
-absent_is folder name = found (get folder name)
-  where
-    found : (there : Option (List ℕ)) → (length (unwrap_or there []) == 0 && not (is_some there)) ≡ not (is_some there)
-    found None = refl
-    found (Some bytes) = grind arith
+absent_is : (there : Option (List ℕ)) → (length (unwrap_or there []) == 0 && not (is_some there)) ≡ not (is_some there)
+absent_is None = refl
+absent_is (Some bytes) = grind arith
 
 absent_first : (folder : Folder) (names : List (List ℕ)) → fault_at 1 NoSuchFile (λ file. length file.1 == 0 && not (has folder file.0)) (files_of folder names) ≡ fault_at 1 NoSuchFile (λ name. not (has folder name)) names
-absent_first folder names =
-    ap (option_map (λ k. NoSuchFile (1 + k))) (position-map (λ (file : File). length file.1 == 0 && not (has folder file.0)) (λ name. (name, bytes_of folder name)) names ∙ simp (absent_is folder))
+absent_first folder names = ap (option_map (λ k. NoSuchFile (1 + k))) (position-map _ (λ name. (name, bytes_of folder name)) names ∙ simp absent_is)
 
 create_causes : (folder : Folder) (a : CreateArgs)
     → create_refusal folder a ≡ first_fault (head_fault a ∷ inputs_fault folder a.slice a.inputs ∷ long_name (output_names a) ∷ existing folder a.overwrite (output_names a) ∷ [])

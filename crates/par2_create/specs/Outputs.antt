@@ -63,10 +63,3 @@ volume_file parts volume = (volume.name, volume_file_name parts volume)
 -- the change that writes a file, or replaces it if it exists already
 abbrev pub put_change : Folder → File → Change
 put_change folder file = if has folder file.0 then Replace file.0 file.1 else Write file.0 file.1
-
--- the changes that write the outputs, the index under the name `base`
-abbrev pub output_changes : List ℕ → Parts → List Change
-output_changes base parts =
-    let folder = parts.folder.now.files in
-    put_change folder (base, parts.index.items)
-    ∷ map (λ volume. put_change folder (volume_file parts volume)) parts.volumes.now

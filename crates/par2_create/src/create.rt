@@ -15,8 +15,9 @@ use crate::Changes;
 use crate::index::{Parts, index_of};
 use crate::inputs::{contents_of, files_fault, inputs_in, no_duplicate, set_of};
 use crate::names::{Volume, existing, volumes};
-use crate::outputs::changes_of;
+use crate::outputs::{push_files, put_change};
 use crate::records::RecoverySet;
+use crate::volumes::volume_files;
 use crate::words::{bad_name, index_name, input_names};
 use par2_files::{Checkpoints, Folder, Name, checkpoint_at};
 use par2_spec::{CreateArgs, Fault, Result};
@@ -99,7 +100,11 @@ fn outputs_written(
         folder,
         volumes,
     };
-    changes_of(alloc, base, parts)
+    let files = volume_files(alloc, &parts)?;
+    let mut changes = Changes::new(alloc);
+    changes.push(put_change(folder, base, parts.index))?;
+    push_files(&mut changes, folder, files)?;
+    Ok(changes)
 }
 
 /// The changes of a create, which write its outputs in order, or why it is refused. It returns `Memory` only if an

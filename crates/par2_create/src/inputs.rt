@@ -110,6 +110,13 @@ pub fn files_fault(folder: &Folder, inputs: &[Input], size: u64) -> Option<Fault
     are_too_many(inputs, size).then_some(Fault::TooManySlices)
 }
 
+// The fault of a create, two of whose inputs have one File ID.
+fn fault_of(_: DuplicateId) -> Fault
+    ensures { result ≡ Fault.DuplicateId }
+{
+    Fault::DuplicateId
+}
+
 /// The set of these inputs in the order of their File IDs, with slices of `size` bytes. `md5s` are the MD5s of the inputs.
 /// It fails by `DuplicateId`, or for lack of memory.
 pub fn set_of(
@@ -129,6 +136,6 @@ pub fn set_of(
     let records = file_records(alloc, inputs, md5s, size)?;
     match sorted_by_id(records) {
         Ok(files) => Ok(RecoverySet { slice: size, files }),
-        Err(DuplicateId) => Err(Fault::DuplicateId),
+        Err(fault) => Err(fault_of(fault)),
     }
 }

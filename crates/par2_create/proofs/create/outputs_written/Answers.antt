@@ -1,4 +1,4 @@
-use Rattle.par2_create.proofs.Common.{create_changes, CreateArgs, files_of, flat_map, IfOk, head_fault, inputs_fault, ◌≡◌, List, ◌∙◌, ◌≤◌, ◌%◌, ◌^◌, length, map, sym, ap, ap₂, subst, string_bytes, length-map, Folder, packet, index_packets, main_id, record_of, in_id_order, all_slices, create_args_of, file_record_of, FileRecord, Volume, ◌+◌, RecordsInputs, None}
+use Rattle.par2_create.proofs.Common.{create_changes, ◌++◌, ◌∷◌, [], map-map, Change, put_change, recovery_packets, as_file, CreateArgs, files_of, flat_map, head_fault, inputs_fault, ◌≡◌, List, ◌∙◌, ◌≤◌, ◌%◌, ◌^◌, length, map, sym, ap, ap₂, subst, string_bytes, length-map, Folder, packet, index_packets, main_id, record_of, in_id_order, all_slices, create_args_of, file_record_of, FileRecord, Volume, ◌+◌, RecordsInputs, None}
 use Rattle.std.specs.List.{All}
 use Rattle.md5.proofs.StandardFacts.{length-md5}
 use Rattle.par2_create.specs.Records.{names_of}
@@ -54,4 +54,9 @@ returns c =
     let is_index : index ≡ flat_map packet (index_packets s records) = c.in_ok-set_id.ensures.bytes ∙ ap₂ (λ n files. flat_map packet (index_packets n files)) c.requires.set.slice are in
     let is_id : id ≡ main_id s records = c.in_ok-set_id.ensures.id ∙ ap₂ main_id c.requires.set.slice are in
     let same : written folder c.args.base index id set.slice buffers volumes ≡ create_changes folder a = rw (c.requires.base, is_index, is_id, c.requires.set.slice, order, c.requires.volumes) (create_written folder a) in
-    subst (λ w. IfOk c.changes_of.result (λ changes. changes ≡ w)) same c.changes_of.ensures
+    let put = put_change folder in
+    let files = c.in_ok-files.files.items in
+    let first : c.push.new.self ≡ put (c.args.base, index) ∷ [] = c.in_ok-push.ensures.ok ∙ ap₂ (λ (cs : List Change) x. cs ++ x ∷ []) c.new-changes.ensures c.put_change.ensures in
+    c.in_ok-push_files.ensures
+    ∙ ap₂ (λ (cs added : List Change). cs ++ added) first (sym (map-map put as_file files) ∙ ap (map put) c.in_ok-files.ensures ∙ map-map put (λ (v : Volume). (v.name, index ++ flat_map packet (recovery_packets set.slice id buffers v.first v.count))) volumes)
+    ∙ same
