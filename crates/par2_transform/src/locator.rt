@@ -11,6 +11,7 @@ ghost use Rattle.par2_transform.specs.Adding.{within, AddsAt, AddsToEach, HaveWo
 ghost use Rattle.par2_transform.specs.Columns.{byte_lists, words_at, AreByteLists};
 ghost use Rattle.par2_transform.specs.Grids.{column};
 ghost use Rattle.par2_transform.specs.Subspaces.{point_number};
+ghost use Rattle.par2_transform.specs.Outputs.{AddsIn};
 ghost use Rattle.par2_transform.specs.Locators.{AreCombinations, AreFit, AreNumbered, AreValuesOf, HoldNumerators, in_coset, quotient_sum};
 
 use crate::basis::point_number;
@@ -137,7 +138,8 @@ impl<'a> Locator<'a> {
         ensures { AddsAt columns.now.outputs.places.now columns.now.outputs.words
             (λ t p. within j (j + 1) t (in_coset self.now.numbers.items self.now.levels coset j
             (within columns.now.from columns.now.to p (mul (slice_index self.now.factors.items j)
-            (column rows.now (p - columns.now.from) (slice_index self.now.numbers.items j - coset * 2 ^ self.now.levels))))))
+            (column rows.now (p - columns.now.from)
+            (slice_index self.now.numbers.items j - coset * 2 ^ self.now.levels))))))
             (lists_of buffers.old) (lists_of buffers.new) }
     {
         let number = word_or_zero(&self.numbers, j) as usize;
@@ -172,7 +174,8 @@ impl<'a> Locator<'a> {
         // The combinations are the numerators over the sources.
         requires bytes { AreByteLists (byte_lists sources.now) }
         requires numerators { HoldNumerators self.now.levels
-            self.now.numerators.sequence.items (byte_lists sources.now) columns.now.from combinations.now }
+            self.now.numerators.sequence.items (byte_lists sources.now) columns.now.from
+            combinations.now }
         // These columns fit the rows, and the outputs lie inside the buffers.
         requires columns { columns.now.to ≤ columns.now.from + rows.old.words }
         requires room { LieWithin columns.now.outputs.words columns.now.outputs.places.now
@@ -183,7 +186,8 @@ impl<'a> Locator<'a> {
         // Each output whose point is in the coset gets its sum. Nothing else changes.
         ensures added { AddsAt columns.now.outputs.places.now columns.now.outputs.words (λ t p.
             in_coset self.now.numbers.items self.now.levels coset t
-            (within columns.now.from columns.now.to p (quotient_sum self.now.numerators.sequence.items self.now.points.items self.now.factors.items
+            (within columns.now.from columns.now.to p (quotient_sum
+            self.now.numerators.sequence.items self.now.points.items self.now.factors.items
             (words_at (byte_lists sources.now) p) t)))
             (lists_of buffers.old) (lists_of buffers.new) }
     {
@@ -219,9 +223,9 @@ impl<'a> Locator<'a> {
         ensures sums_levels { sums.new.levels ≡ sums.old.levels }
         ensures sums_words { sums.new.words ≡ sums.old.words }
         // Each output gets its sum in these columns. Nothing else changes.
-        ensures added { AddsAt columns.now.outputs.places.now columns.now.outputs.words
-            (λ t p. within columns.now.from columns.now.to p (quotient_sum self.now.numerators.sequence.items self.now.points.items self.now.factors.items
-            (words_at (byte_lists sources.now) p) t))
+        ensures added { AddsIn columns.now (λ t p. quotient_sum
+            self.now.numerators.sequence.items self.now.points.items self.now.factors.items
+            (words_at (byte_lists sources.now) p) t)
             (lists_of buffers.old) (lists_of buffers.new) }
     {
         self.numerators.sum(sources, columns.from, rows, sums);

@@ -5,9 +5,10 @@
 
 ghost use Rattle.std.specs.Prelude.{◌≡◌, ℕ, ◌+◌, ◌^◌, ◌<◌, ◌≤◌, length, slice_index, IfOk};
 ghost use Rattle.par2_spec.specs.Sums.{list_at, lists_of, GivesElements};
-ghost use Rattle.par2_transform.specs.Adding.{within, AddsAt, AddsToEach, HaveWords, LieWithin};
+ghost use Rattle.par2_transform.specs.Adding.{AddsAt, AddsToEach, HaveWords, LieWithin};
 ghost use Rattle.par2_transform.specs.Columns.{byte_lists, words_at, AreByteLists};
 ghost use Rattle.par2_transform.specs.Locators.{AreNumerators, HaveFirst, IsWeighed, numerator};
+ghost use Rattle.par2_transform.specs.Outputs.{AddsIn};
 
 use crate::blocks::gather_rows;
 use crate::cosets::values_at_points;
@@ -182,8 +183,8 @@ impl<'a> Numerators<'a> {
         ensures sums_levels { sums.new.levels ≡ sums.old.levels }
         ensures sums_words { sums.new.words ≡ sums.old.words }
         // Each output gets its sum in these columns. Nothing else changes.
-        ensures added { AddsAt columns.now.outputs.places.now columns.now.outputs.words
-            (λ t p. within columns.now.from columns.now.to p (numerator self.now.sequence.items (words_at (byte_lists sources.now) p) t))
+        ensures added { AddsIn columns.now
+            (λ t p. numerator self.now.sequence.items (words_at (byte_lists sources.now) p) t)
             (lists_of buffers.old) (lists_of buffers.new) }
     {
         self.sum(sources, columns.from, rows, sums);
