@@ -94,12 +94,6 @@ next_gathered cut slices r from n was mid block so_far one = record {
 
 -- ---- all blocks
 
--- the first n windows are gathered in all blocks
-pub record GatheredSoFar (cut : Cut) (slices : List (List ℕ)) (r from n : ℕ) (rows_were rows : Grid) (old blocks : List Outputs) : Type 0 where
-  pub levels : rows.levels ≡ rows_were.levels
-  pub words : rows.words ≡ rows_were.words
-  pub each : EachBlock (IsGathered cut slices r from n) old blocks
-
 all_become : (first second both : Outputs → Outputs → Type 0) (old mid new : List Outputs) → EachBlock first old mid → EachBlock second mid new
     → ((j : ℕ) → j < length old → first (outputs_at old j) (outputs_at mid j) → second (outputs_at mid j) (outputs_at new j) → both (outputs_at old j) (outputs_at new j)) → EachBlock both old new
 all_become first second both old mid new a b join = record {
@@ -112,30 +106,21 @@ pub becomes_too : (first second : Outputs → Outputs → Type 0) (old new : Lis
     → ((j : ℕ) → j < length old → first (outputs_at old j) (outputs_at new j) → second (outputs_at old j) (outputs_at new j)) → EachBlock second old new
 becomes_too first second old new a step = record { count = a.count; done = λ j h. step j h (a.done j h); rest = a.rest }
 
-pub nothing_so_far : (cut : Cut) (slices : List (List ℕ)) (r from : ℕ) (rows : Grid) (old blocks : List Outputs) → EachBlock IsCleared old blocks
-    → GatheredSoFar cut slices r from 0 rows rows old blocks
-nothing_so_far cut slices r from rows old blocks cleared = record {
-  levels = refl;
-  words = refl;
-  each = becomes_too IsCleared (IsGathered cut slices r from 0) old blocks cleared (λ j h c. nothing_gathered cut slices r from (outputs_at old j) (outputs_at blocks j) c);
-}
+pub nothing_so_far : (cut : Cut) (slices : List (List ℕ)) (r from : ℕ) (old blocks : List Outputs) → EachBlock IsCleared old blocks → EachBlock (IsGathered cut slices r from 0) old blocks
+nothing_so_far cut slices r from old blocks cleared =
+    becomes_too IsCleared (IsGathered cut slices r from 0) old blocks cleared (λ j h c. nothing_gathered cut slices r from (outputs_at old j) (outputs_at blocks j) c)
 
-pub one_window_more : (cut : Cut) (slices : List (List ℕ)) (r from n : ℕ) (rows_were mid rows : Grid) (old before blocks : List Outputs)
-    → GatheredSoFar cut slices r from n rows_were mid old before → rows.levels ≡ mid.levels → rows.words ≡ mid.words
-    → EachBlock (GathersWindow cut slices r n from) before blocks → GatheredSoFar cut slices r from (n + 1) rows_were rows old blocks
-one_window_more cut slices r from n rows_were mid rows old before blocks so_far levels words one = record {
-  levels = levels ∙ so_far.levels;
-  words = words ∙ so_far.words;
-  each = all_become (IsGathered cut slices r from n) (GathersWindow cut slices r n from) (IsGathered cut slices r from (n + 1)) old before blocks so_far.each one
-      (λ j h first second. next_gathered cut slices r from n (outputs_at old j) (outputs_at before j) (outputs_at blocks j) first second);
-}
+pub one_window_more : (cut : Cut) (slices : List (List ℕ)) (r from n : ℕ) (old before blocks : List Outputs) → EachBlock (IsGathered cut slices r from n) old before
+    → EachBlock (GathersWindow cut slices r n from) before blocks → EachBlock (IsGathered cut slices r from (n + 1)) old blocks
+one_window_more cut slices r from n old before blocks so_far one =
+    all_become (IsGathered cut slices r from n) (GathersWindow cut slices r n from) (IsGathered cut slices r from (n + 1)) old before blocks so_far one
+    (λ j h first second. next_gathered cut slices r from n (outputs_at old j) (outputs_at before j) (outputs_at blocks j) first second)
 
 -- the blocks keep their shape
-pub shape_kept : (cut : Cut) (slices : List (List ℕ)) (r from n words : ℕ) (rows_were rows : Grid) (old blocks : List Outputs) → GatheredSoFar cut slices r from n rows_were rows old blocks
-    → HaveShape cut words old → HaveShape cut words blocks
-shape_kept cut slices r from n words rows_were rows old blocks so_far shape j h =
-    let low : j < length old = (let e = so_far.each.count in omega (arith, e)) in
-    let kept = (so_far.each.done j low).kept in
+pub shape_kept : (cut : Cut) (slices : List (List ℕ)) (r from n words : ℕ) (old blocks : List Outputs) → EachBlock (IsGathered cut slices r from n) old blocks → HaveShape cut words old → HaveShape cut words blocks
+shape_kept cut slices r from n words old blocks so_far shape j h =
+    let low : j < length old = (let e = so_far.count in omega (arith, e)) in
+    let kept = (so_far.done j low).kept in
     record {
       windows = kept.windows ∙ (shape j low).windows;
       levels = kept.levels ∙ (shape j low).levels;

@@ -13,6 +13,11 @@ pub record Grid : Type 0 where
 abbrev pub column : Grid → ℕ → ℕ → ℕ
 column grid c u = within 0 grid.words c (word (u * grid.words + c) grid.bytes)
 
+-- there are 2 ^ k rows of n words each
+pub record HasSize (k n : ℕ) (grid : Grid) : Type 0 where
+  pub levels : grid.levels ≡ k
+  pub words : grid.words ≡ n
+
 -- the bytes are 2 ^ levels rows of this many words
 pub record AreRows (levels words : ℕ) (bytes : List ℕ) : Type 0 where
   pub few : levels ≤ 16

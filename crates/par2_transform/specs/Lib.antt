@@ -11,4 +11,5 @@ pub mod Columns
 pub mod Plans
 pub mod Adding
 pub mod Blocks
+pub mod Outputs
 pub mod Locators

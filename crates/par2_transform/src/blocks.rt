@@ -6,7 +6,7 @@ ghost use Rattle.std.specs.Prelude.{◌≡◌, ℕ, ◌+◌, ◌-◌, ◌*◌, �
 ghost use Rattle.par2_spec.specs.Field.{mul, pow};
 ghost use Rattle.par2_spec.specs.Sums.{field_sum, list_at, lists_of};
 ghost use Rattle.par2_transform.specs.Adding.{within, AddsAt, LieWithin};
-ghost use Rattle.par2_transform.specs.Blocks.{IsBlock, IsCleared, RowsGathered, Gathers, Takes, Keeps, AreWeightRows, EachBlock, OneBecomes, from_gathered, outputs_at, block_part, weight_at};
+ghost use Rattle.par2_transform.specs.Blocks.{IsBlock, IsCleared, HasShape, HaveShape, RowsGathered, Gathers, Takes, Keeps, AreWeightRows, EachBlock, OneBecomes, from_gathered, outputs_at, block_part, weight_at};
 ghost use Rattle.par2_transform.specs.Chirps.{chirp, chirp_inverse};
 ghost use Rattle.par2_transform.specs.Grids.{column};
 ghost use Rattle.par2_transform.specs.Plans.{cut_of};
@@ -14,7 +14,7 @@ ghost use Rattle.par2_transform.specs.Transforms.{HasWeights};
 
 use crate::levels::power_sums;
 use crate::outputs::Columns;
-use crate::plan::Plan;
+use crate::plan::{Class, Plan};
 use crate::powers::{chirp, chirp_inverse, power};
 use crate::rows::Rows;
 use crate::weights::weights;
@@ -31,7 +31,7 @@ pub(crate) struct Block {
 }
 
 impl Model for Block {
-    ghost use Rattle.std.specs.Prelude.{length};
+    ghost use Rattle.std.specs.Prelude.{◌^◌, ◌≤◌, length};
     ghost use Rattle.par2_spec.specs.Sums.{lists_of};
     ghost use Rattle.par2_transform.specs.Blocks.{Outputs, AreWeightRows};
 
@@ -44,7 +44,8 @@ impl Model for Block {
       sums = b.sums;
     } };
 
-    ghost invariant = { λ b. AreWeightRows b.sums.levels (lists_of b.weights.items) };
+    ghost invariant = { λ b. AreWeightRows b.sums.levels (lists_of b.weights.items)
+        × (b.exponent ≤ 2 ^ 34) };
 }
 
 // The `2 ^ levels` chirps from chirp m on, of step `plan.classes`: the power sums that the weights of a window have.
@@ -146,52 +147,52 @@ impl Block {
         gather_rows(gf, weights_at(&self.weights, a), values, &mut self.sums);
     }
 
-    /// Turns the sums gathered for class r into outputs, and adds these to the outputs from `first` on, in these columns.
+    /// Turns the sums gathered for a class into outputs, and adds these to the outputs from `first` on, in these columns.
     /// `first` is the index, among all outputs, of the block's first one. The gathered sums are overwritten.
     pub(crate) fn add_to(
         &mut self,
         gf: &Gf,
-        plan: &Plan,
-        r: usize,
+        class: &Class,
         columns: &Columns,
         buffers: &mut [Vec<u8>],
         first: usize,
     )
-        // The block has the shape of the plan, and r is one of its classes.
-        requires exponent { self.old.exponent ≤ 2 ^ 34 }
-        requires class { r < plan.now.classes }
-        requires levels { self.old.sums.levels ≡ plan.now.levels }
-        requires words { self.old.sums.words ≡ plan.now.columns }
-        // One block of columns at most, and the outputs lie inside the buffers.
-        requires columns { columns.now.to ≤ columns.now.from + plan.now.columns }
+        // The block has the shape of the plan. There is one block of columns at most, and the outputs lie inside the
+        // buffers.
+        requires shape { HasShape (cut_of class.now.plan) class.now.plan.columns self.old }
+        requires columns { columns.now.to ≤ columns.now.from + class.now.plan.columns }
         requires room { LieWithin columns.now.outputs.words columns.now.outputs.places.now
             (lists_of buffers.old) }
-        // The part of class r is added to the outputs of this block and to nothing else. Only the sums of the block
+        // The part of the class is added to the outputs of this block and to nothing else. Only the sums of the block
         // change.
         ensures kept { Keeps self.old self.new }
         ensures added { AddsAt columns.now.outputs.places.now columns.now.outputs.words
-            (λ t p. within first (first + plan.now.block) t
-            (within columns.now.from columns.now.to p
-            (from_gathered (cut_of plan.now) (column self.old.sums (p - columns.now.from))
-            self.old.exponent (t - first) r))) (lists_of buffers.old) (lists_of buffers.new) }
+            (λ t p. within first (first + class.now.plan.block) t
+            (within columns.now.from columns.now.to p (from_gathered (cut_of class.now.plan)
+            (column self.old.sums (p - columns.now.from)) self.old.exponent (t - first)
+            class.now.number))) (lists_of buffers.old) (lists_of buffers.new) }
     {
         power_sums(gf, &mut self.sums);
-        for t in 0..plan.block.min(columns.outputs.len().saturating_sub(first)) {
-            let factor = factor_of(gf, plan, r, self.exponent + t as u64);
+        for t in 0..class
+            .plan
+            .block
+            .min(columns.outputs.len().saturating_sub(first))
+        {
+            let factor = factor_of(gf, class, self.exponent + t as u64);
             columns.add(gf, factor, self.sums.row(t), buffers, first + t);
         }
     }
 }
 
-// The factor by which class r's power sum becomes its part in the output of exponent e: 2 ^ (e r) divided by chirp e.
-fn factor_of(gf: &Gf, plan: &Plan, r: usize, e: u64) -> u16
-    requires class { r < plan.now.classes }
-    requires exponent { e ≤ 2 ^ 40 }
-    ensures { result ≡ mul (pow 2 (e * r)) (chirp_inverse plan.now.classes e) }
+// The factor by which the power sum of class r becomes its part in the output of exponent e: 2 ^ (e r) divided by chirp e.
+fn factor_of(gf: &Gf, class: &Class, e: u64) -> u16
+    requires { e ≤ 2 ^ 40 }
+    ensures { result ≡ mul (pow 2 (e * class.now.number))
+        (chirp_inverse class.now.plan.classes e) }
 {
     gf.mul(
-        power(gf, e * r as u64),
-        chirp_inverse(gf, plan.classes as u64, e),
+        power(gf, e * class.number as u64),
+        chirp_inverse(gf, class.plan.classes as u64, e),
     )
 }
 
@@ -231,68 +232,57 @@ pub(crate) fn gather_all(gf: &Gf, a: usize, values: &Rows, blocks: &mut [Block])
     }
 }
 
-// Turns the sums that block j gathered for class r into outputs, and adds these in these columns: the step of `add_all`.
+// Turns the sums that block j gathered for a class into outputs, and adds these in these columns: the step of `add_all`.
 fn add_one(
     gf: &Gf,
-    plan: &Plan,
-    r: usize,
+    class: &Class,
     columns: &Columns,
     blocks: &mut [Block],
     j: usize,
     buffers: &mut [Vec<u8>],
 )
-    // Block j has the shape of the plan, and r is one of its classes.
+    // Block j has the shape of the plan. There is one block of columns at most, and the outputs lie inside the buffers.
     requires place { j < length blocks.old }
-    requires few { length blocks.old * plan.now.block ≤ 2 ^ 34 }
-    requires exponent { (outputs_at blocks.old j).exponent ≤ 2 ^ 34 }
-    requires class { r < plan.now.classes }
-    requires levels { (outputs_at blocks.old j).sums.levels ≡ plan.now.levels }
-    requires words { (outputs_at blocks.old j).sums.words ≡ plan.now.columns }
-    // One block of columns at most, and the outputs lie inside the buffers.
-    requires columns { columns.now.to ≤ columns.now.from + plan.now.columns }
+    requires few { length blocks.old * class.now.plan.block ≤ 2 ^ 34 }
+    requires shape { HasShape (cut_of class.now.plan) class.now.plan.columns
+        (outputs_at blocks.old j) }
+    requires columns { columns.now.to ≤ columns.now.from + class.now.plan.columns }
     requires room { LieWithin columns.now.outputs.words columns.now.outputs.places.now
         (lists_of buffers.old) }
-    // The part of class r is added to the outputs of block j and to nothing else. Only its sums change.
+    // The part of the class is added to the outputs of block j and to nothing else. Only its sums change.
     ensures kept { OneBecomes Keeps j blocks.old blocks.new }
     ensures added { AddsAt columns.now.outputs.places.now columns.now.outputs.words
-        (block_part (cut_of plan.now) plan.now.block r columns.now.from columns.now.to
-        (outputs_at blocks.old j) j)
+        (block_part (cut_of class.now.plan) class.now.plan.block class.now.number
+        columns.now.from columns.now.to (outputs_at blocks.old j) j)
         (lists_of buffers.old) (lists_of buffers.new) }
 {
-    blocks[j].add_to(gf, plan, r, columns, buffers, j * plan.block);
+    blocks[j].add_to(gf, class, columns, buffers, j * class.plan.block);
 }
 
-/// Turns the sums that all blocks gathered for class r into outputs, and adds these in these columns.
+/// Turns the sums that all blocks gathered for a class into outputs, and adds these in these columns.
 pub(crate) fn add_all(
     gf: &Gf,
-    plan: &Plan,
-    r: usize,
+    class: &Class,
     columns: &Columns,
     blocks: &mut [Block],
     buffers: &mut [Vec<u8>],
 )
-    // All blocks have the shape of the plan, and r is one of its classes.
-    requires few { length blocks.old * plan.now.block ≤ 2 ^ 34 }
-    requires exponents { (j : ℕ) → j < length blocks.old
-        → (outputs_at blocks.old j).exponent ≤ 2 ^ 34 }
-    requires class { r < plan.now.classes }
-    requires levels { (j : ℕ) → j < length blocks.old
-        → (outputs_at blocks.old j).sums.levels ≡ plan.now.levels }
-    requires words { (j : ℕ) → j < length blocks.old
-        → (outputs_at blocks.old j).sums.words ≡ plan.now.columns }
-    // One block of columns at most, and the outputs lie inside the buffers.
-    requires columns { columns.now.to ≤ columns.now.from + plan.now.columns }
+    // All blocks have the shape of the plan. There is one block of columns at most, and the outputs lie inside the
+    // buffers.
+    requires few { length blocks.old * class.now.plan.block ≤ 2 ^ 34 }
+    requires shape { HaveShape (cut_of class.now.plan) class.now.plan.columns blocks.old }
+    requires columns { columns.now.to ≤ columns.now.from + class.now.plan.columns }
     requires room { LieWithin columns.now.outputs.words columns.now.outputs.places.now
         (lists_of buffers.old) }
     // Each output gets the sum of the parts of all blocks. Only the sums of the blocks change.
     ensures kept { EachBlock Keeps blocks.old blocks.new }
     ensures added { AddsAt columns.now.outputs.places.now columns.now.outputs.words
         (λ t p. field_sum (length blocks.old) (λ j.
-        block_part (cut_of plan.now) plan.now.block r columns.now.from columns.now.to
-        (outputs_at blocks.old j) j t p))
+        block_part (cut_of class.now.plan) class.now.plan.block class.now.number
+        columns.now.from columns.now.to (outputs_at blocks.old j) j t p))
         (lists_of buffers.old) (lists_of buffers.new) }
 {
     for j in 0..blocks.len() {
-        add_one(gf, plan, r, columns, blocks, j, buffers);
+        add_one(gf, class, columns, blocks, j, buffers);
     }
 }

@@ -11,12 +11,13 @@ ghost use Rattle.par2_transform.specs.Adding.{within, AddsAt, AddsToEach, HaveWo
 ghost use Rattle.par2_transform.specs.Columns.{byte_lists, words_at, AreByteLists};
 ghost use Rattle.par2_transform.specs.Grids.{column};
 ghost use Rattle.par2_transform.specs.Subspaces.{point_number};
+ghost use Rattle.par2_transform.specs.Outputs.{AddsIn};
 ghost use Rattle.par2_transform.specs.Locators.{AreCombinations, AreFit, AreNumbered, AreValuesOf, HoldNumerators, in_coset, quotient_sum};
 
 use crate::basis::point_number;
 use crate::cosets::{list, values_in_coset};
 use crate::levels::to_combinations;
-use crate::numerators::{Numerators, word_or_zero};
+use crate::numerators::{Numerators, Scratch, word_or_zero};
 use crate::outputs::{Columns, Places};
 use crate::plan::columns_for;
 use crate::recovery::whole_buffers;
@@ -86,19 +87,17 @@ impl<'a> Locator<'a> {
         })
     }
 
-    // Replaces the rows by the numerators, whose coefficients are the first rows of `sums`, as combinations of products of
-    // subspace polynomials.
-    fn combine(&self, sums: &Rows, rows: &mut Rows)
-        requires rows { rows.old.levels ≡ self.now.numerators.levels }
-        requires sums { sums.now.levels ≡ self.now.numerators.levels }
-        requires words { sums.now.words ≡ rows.old.words }
-        ensures { AreCombinations self.now.levels
-            (length self.now.numerators.sequence.items) sums.now rows.old rows.new }
+    // Replaces the rows by the numerators, whose coefficients are the first sums, as combinations of products of subspace
+    // polynomials.
+    fn combine(&self, scratch: &mut Scratch)
+        requires { scratch.old.rows.levels ≡ self.now.numerators.levels }
+        ensures { AreCombinations self.now.levels (length self.now.numerators.sequence.items)
+            scratch.old.sums scratch.old.rows scratch.new.rows }
     {
-        rows.clear();
+        scratch.rows.clear();
         let count = self.numerators.sequence.len();
-        rows.copy_from(sums, count);
-        to_combinations(rows, self.levels, count);
+        scratch.rows.copy_from(&scratch.sums, count);
+        to_combinations(&mut scratch.rows, self.levels, count);
     }
 
     // Replaces the rows by the values of the combinations at the points in the coset with this number.
@@ -137,7 +136,8 @@ impl<'a> Locator<'a> {
         ensures { AddsAt columns.now.outputs.places.now columns.now.outputs.words
             (λ t p. within j (j + 1) t (in_coset self.now.numbers.items self.now.levels coset j
             (within columns.now.from columns.now.to p (mul (slice_index self.now.factors.items j)
-            (column rows.now (p - columns.now.from) (slice_index self.now.numbers.items j - coset * 2 ^ self.now.levels))))))
+            (column rows.now (p - columns.now.from)
+            (slice_index self.now.numbers.items j - coset * 2 ^ self.now.levels))))))
             (lists_of buffers.old) (lists_of buffers.new) }
     {
         let number = word_or_zero(&self.numbers, j) as usize;
@@ -159,37 +159,35 @@ impl<'a> Locator<'a> {
         sources: &[&[u8]],
         coset: usize,
         columns: &Columns,
-        combinations: &Rows,
-        rows: &mut Rows,
+        scratch: &mut Scratch,
         buffers: &mut [Vec<u8>],
     )
-        // The coset exists, there is an output for each point, and both sets of rows have the locator's shape.
+        // The coset exists, there is an output for each point, and the rows have the locator's shape.
         requires coset { coset < 2 ^ (16 - self.now.levels) }
         requires count { length columns.now.outputs.places.now ≡ length self.now.points.items }
-        requires rows { rows.old.levels ≡ self.now.numerators.levels }
-        requires combinations { combinations.now.levels ≡ self.now.numerators.levels }
-        requires words { combinations.now.words ≡ rows.old.words }
-        // The combinations are the numerators over the sources.
+        requires levels { scratch.old.rows.levels ≡ self.now.numerators.levels }
+        // The rows are the numerators over the sources, as combinations.
         requires bytes { AreByteLists (byte_lists sources.now) }
         requires numerators { HoldNumerators self.now.levels
-            self.now.numerators.sequence.items (byte_lists sources.now) columns.now.from combinations.now }
+            self.now.numerators.sequence.items (byte_lists sources.now) columns.now.from
+            scratch.old.rows }
         // These columns fit the rows, and the outputs lie inside the buffers.
-        requires columns { columns.now.to ≤ columns.now.from + rows.old.words }
+        requires columns { columns.now.to ≤ columns.now.from + scratch.old.rows.words }
         requires room { LieWithin columns.now.outputs.words columns.now.outputs.places.now
             (lists_of buffers.old) }
-        // The rows keep their shape, so that the next coset can use them.
-        ensures levels { rows.new.levels ≡ rows.old.levels }
-        ensures words { rows.new.words ≡ rows.old.words }
+        // The combinations stay for the next coset.
+        ensures kept { scratch.new.rows ≡ scratch.old.rows }
         // Each output whose point is in the coset gets its sum. Nothing else changes.
         ensures added { AddsAt columns.now.outputs.places.now columns.now.outputs.words (λ t p.
             in_coset self.now.numbers.items self.now.levels coset t
-            (within columns.now.from columns.now.to p (quotient_sum self.now.numerators.sequence.items self.now.points.items self.now.factors.items
+            (within columns.now.from columns.now.to p (quotient_sum
+            self.now.numerators.sequence.items self.now.points.items self.now.factors.items
             (words_at (byte_lists sources.now) p) t)))
             (lists_of buffers.old) (lists_of buffers.new) }
     {
-        self.evaluate(coset, combinations, rows);
+        self.evaluate(coset, &scratch.rows, &mut scratch.sums);
         for j in 0..columns.outputs.len() {
-            self.add_point(coset, j, columns, rows, buffers);
+            self.add_point(coset, j, columns, &scratch.sums, buffers);
         }
     }
 
@@ -198,36 +196,30 @@ impl<'a> Locator<'a> {
         &self,
         sources: &[&[u8]],
         columns: &Columns,
-        rows: &mut Rows,
-        sums: &mut Rows,
+        scratch: &mut Scratch,
         buffers: &mut [Vec<u8>],
     )
-        // There is a source for each coefficient and an output for each point, and both sets of rows have the locator's
-        // shape.
+        // There is a source for each coefficient and an output for each point, and the rows have the locator's shape.
         requires sources { length sources.now ≡ length self.now.numerators.sequence.items }
         requires count { length columns.now.outputs.places.now ≡ length self.now.points.items }
-        requires rows { rows.old.levels ≡ self.now.numerators.levels }
-        requires sums { sums.old.levels ≡ self.now.numerators.levels }
-        requires words { rows.old.words ≡ sums.old.words }
+        requires levels { scratch.old.rows.levels ≡ self.now.numerators.levels }
         // These columns fit the rows, and the outputs lie inside the buffers.
-        requires columns { columns.now.to ≤ columns.now.from + rows.old.words }
+        requires columns { columns.now.to ≤ columns.now.from + scratch.old.rows.words }
         requires room { LieWithin columns.now.outputs.words columns.now.outputs.places.now
             (lists_of buffers.old) }
-        // Both sets of rows keep their shape, so that the next columns can use them.
-        ensures rows_levels { rows.new.levels ≡ rows.old.levels }
-        ensures rows_words { rows.new.words ≡ rows.old.words }
-        ensures sums_levels { sums.new.levels ≡ sums.old.levels }
-        ensures sums_words { sums.new.words ≡ sums.old.words }
+        // The rows keep their shape, so that the next columns can use them.
+        ensures levels { scratch.new.rows.levels ≡ scratch.old.rows.levels }
+        ensures words { scratch.new.rows.words ≡ scratch.old.rows.words }
         // Each output gets its sum in these columns. Nothing else changes.
-        ensures added { AddsAt columns.now.outputs.places.now columns.now.outputs.words
-            (λ t p. within columns.now.from columns.now.to p (quotient_sum self.now.numerators.sequence.items self.now.points.items self.now.factors.items
-            (words_at (byte_lists sources.now) p) t))
+        ensures added { AddsIn columns.now (λ t p. quotient_sum
+            self.now.numerators.sequence.items self.now.points.items self.now.factors.items
+            (words_at (byte_lists sources.now) p) t)
             (lists_of buffers.old) (lists_of buffers.new) }
     {
-        self.numerators.sum(sources, columns.from, rows, sums);
-        self.combine(sums, rows);
+        self.numerators.sum(sources, columns.from, scratch);
+        self.combine(scratch);
         for coset in 0..1usize << (16 - self.levels) {
-            self.add_coset(sources, coset, columns, rows, sums, buffers);
+            self.add_coset(sources, coset, columns, scratch, buffers);
         }
     }
 
@@ -249,11 +241,12 @@ impl<'a> Locator<'a> {
             (lists_of buffers.old) (lists_of buffers.new)) }
     {
         let width = columns_for(2 << self.numerators.levels, outputs.words, room);
-        let mut rows = Rows::new(alloc, self.numerators.levels, width)?;
-        let mut sums = Rows::new(alloc, self.numerators.levels, width)?;
+        let rows = Rows::new(alloc, self.numerators.levels, width)?;
+        let sums = Rows::new(alloc, self.numerators.levels, width)?;
+        let mut scratch = Scratch { rows, sums };
         for k in 0..outputs.words.div_ceil(width) {
             let columns = outputs.columns(k, width);
-            self.add_columns(sources, &columns, &mut rows, &mut sums, buffers);
+            self.add_columns(sources, &columns, &mut scratch, buffers);
         }
         Ok(())
     }

@@ -5,9 +5,10 @@
 
 ghost use Rattle.std.specs.Prelude.{◌≡◌, ℕ, ◌+◌, ◌^◌, ◌<◌, ◌≤◌, length, slice_index, IfOk};
 ghost use Rattle.par2_spec.specs.Sums.{list_at, lists_of, GivesElements};
-ghost use Rattle.par2_transform.specs.Adding.{within, AddsAt, AddsToEach, HaveWords, LieWithin};
+ghost use Rattle.par2_transform.specs.Adding.{AddsAt, AddsToEach, HaveWords, LieWithin};
 ghost use Rattle.par2_transform.specs.Columns.{byte_lists, words_at, AreByteLists};
 ghost use Rattle.par2_transform.specs.Locators.{AreNumerators, HaveFirst, IsWeighed, numerator};
+ghost use Rattle.par2_transform.specs.Outputs.{AddsIn};
 
 use crate::blocks::gather_rows;
 use crate::cosets::values_at_points;
@@ -34,6 +35,15 @@ pub struct Numerators<'a> {
     ghost fit: { length sequence.items + count ≤ 2 ^ levels },
     ghost weighed: { IsWeighed levels sequence.items weights.items },
     ghost elements: { GivesElements (slice_index sequence.items) },
+}
+
+/// Scratch for sums of sources: two sets of rows of one shape.
+#[derive(Drop)]
+pub(crate) struct Scratch {
+    pub(crate) rows: Rows,
+    pub(crate) sums: Rows,
+    ghost same_levels: { sums.levels ≡ rows.levels },
+    ghost same_words: { sums.words ≡ rows.words },
 }
 
 // The least k such that 2 ^ k is at least `count`, the number of elements and sums: with fewer points, the sums would wrap
@@ -134,27 +144,22 @@ impl<'a> Numerators<'a> {
         })
     }
 
-    /// Computes the sums of the sources' words from word `from` on, sum t in row t of `sums`. `rows` is scratch.
-    pub(crate) fn sum(&self, sources: &[&[u8]], from: usize, rows: &mut Rows, sums: &mut Rows)
-        // There is a source for each element, and both sets of rows have a row for each point.
+    /// Computes the sums of the sources' words from word `from` on, sum t in row t of `sums`.
+    pub(crate) fn sum(&self, sources: &[&[u8]], from: usize, scratch: &mut Scratch)
+        // There is a source for each element, and the rows have one for each point.
         requires count { length sources.now ≡ length self.now.sequence.items }
-        requires rows { rows.old.levels ≡ self.now.levels }
-        requires sums { sums.old.levels ≡ self.now.levels }
-        requires words { rows.old.words ≡ sums.old.words }
-        // The rows keep their shape.
-        ensures levels { rows.new.levels ≡ rows.old.levels }
-        ensures words { rows.new.words ≡ rows.old.words }
+        requires levels { scratch.old.rows.levels ≡ self.now.levels }
         // For the prover: the sources are bytes.
         ensures bytes { AreByteLists (byte_lists sources.now) }
         // The first rows of `sums` are the numerators.
         ensures numerators { AreNumerators self.now.count self.now.sequence.items
-            (byte_lists sources.now) from sums.old sums.new }
+            (byte_lists sources.now) from scratch.old.sums scratch.new.sums }
     {
-        fill(self.gf, sources, from, rows);
-        values_at_points(self.gf, rows, sources.len());
-        sums.clear();
-        gather_rows(self.gf, &self.weights, rows, sums);
-        power_sums(self.gf, sums);
+        fill(self.gf, sources, from, &mut scratch.rows);
+        values_at_points(self.gf, &mut scratch.rows, sources.len());
+        scratch.sums.clear();
+        gather_rows(self.gf, &self.weights, &scratch.rows, &mut scratch.sums);
+        power_sums(self.gf, &mut scratch.sums);
     }
 
     // Adds sum t to output t in these columns.
@@ -162,33 +167,28 @@ impl<'a> Numerators<'a> {
         &self,
         sources: &[&[u8]],
         columns: &Columns,
-        rows: &mut Rows,
-        sums: &mut Rows,
+        scratch: &mut Scratch,
         buffers: &mut [Vec<u8>],
     )
-        // There is a source for each element and a sum for each output, and both sets of rows have a row for each point.
+        // There is a source for each element and a sum for each output, and the rows have one for each point.
         requires sources { length sources.now ≡ length self.now.sequence.items }
         requires count { length columns.now.outputs.places.now ≤ self.now.count }
-        requires rows { rows.old.levels ≡ self.now.levels }
-        requires sums { sums.old.levels ≡ self.now.levels }
-        requires words { rows.old.words ≡ sums.old.words }
+        requires levels { scratch.old.rows.levels ≡ self.now.levels }
         // These columns fit the rows, and the outputs lie inside the buffers.
-        requires columns { columns.now.to ≤ columns.now.from + rows.old.words }
+        requires columns { columns.now.to ≤ columns.now.from + scratch.old.rows.words }
         requires room { LieWithin columns.now.outputs.words columns.now.outputs.places.now
             (lists_of buffers.old) }
-        // Both sets of rows keep their shape, so that the next columns can use them.
-        ensures rows_levels { rows.new.levels ≡ rows.old.levels }
-        ensures rows_words { rows.new.words ≡ rows.old.words }
-        ensures sums_levels { sums.new.levels ≡ sums.old.levels }
-        ensures sums_words { sums.new.words ≡ sums.old.words }
+        // The rows keep their shape, so that the next columns can use them.
+        ensures levels { scratch.new.rows.levels ≡ scratch.old.rows.levels }
+        ensures words { scratch.new.rows.words ≡ scratch.old.rows.words }
         // Each output gets its sum in these columns. Nothing else changes.
-        ensures added { AddsAt columns.now.outputs.places.now columns.now.outputs.words
-            (λ t p. within columns.now.from columns.now.to p (numerator self.now.sequence.items (words_at (byte_lists sources.now) p) t))
+        ensures added { AddsIn columns.now
+            (λ t p. numerator self.now.sequence.items (words_at (byte_lists sources.now) p) t)
             (lists_of buffers.old) (lists_of buffers.new) }
     {
-        self.sum(sources, columns.from, rows, sums);
+        self.sum(sources, columns.from, scratch);
         for t in 0..columns.outputs.len() {
-            columns.add(self.gf, 1, sums.row(t), buffers, t);
+            columns.add(self.gf, 1, scratch.sums.row(t), buffers, t);
         }
     }
 
@@ -209,11 +209,12 @@ impl<'a> Numerators<'a> {
             (lists_of buffers.old) (lists_of buffers.new)) }
     {
         let width = columns_for(2 << self.levels, outputs.words, room);
-        let mut rows = Rows::new(alloc, self.levels, width)?;
-        let mut sums = Rows::new(alloc, self.levels, width)?;
+        let rows = Rows::new(alloc, self.levels, width)?;
+        let sums = Rows::new(alloc, self.levels, width)?;
+        let mut scratch = Scratch { rows, sums };
         for k in 0..outputs.words.div_ceil(width) {
             let columns = outputs.columns(k, width);
-            self.add_columns(sources, &columns, &mut rows, &mut sums, buffers);
+            self.add_columns(sources, &columns, &mut scratch, buffers);
         }
         Ok(())
     }

@@ -31,6 +31,14 @@ pub(crate) struct Plan {
     ghost fit: { window + block ≤ 2 ^ levels + 1 },
 }
 
+/// One of the classes of a plan.
+#[derive(Clone, Copy)]
+pub(crate) struct Class {
+    pub(crate) plan: Plan,
+    pub(crate) number: usize,
+    ghost known: { number < plan.classes },
+}
+
 // The least k such that `outputs` is at most 2 ^ k, kept between 4 and 12. The transform has 2 ^ k points.
 fn levels_for(outputs: usize) -> u32
     requires { outputs ≤ 2 ^ 32 }

@@ -86,7 +86,7 @@ fn add_group(
 {
     let group = outputs.part(from, to);
     let first = first + from as u32;
-    let windows = Windows::new(alloc, gf, slices, outputs.words, first, to - from, room)?;
+    let windows = Windows::new(alloc, gf, slices, first, &group, room)?;
     windows.add_words(alloc, buffers, &group)
 }
 

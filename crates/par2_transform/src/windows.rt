@@ -4,19 +4,20 @@
 
 ghost use Rattle.std.specs.Prelude.{◌≡◌, ◌+◌, ◌-◌, ◌*◌, ◌^◌, ◌<◌, ◌≤◌, length, IfOk};
 ghost use Rattle.par2_spec.specs.Sums.{lists_of};
-ghost use Rattle.par2_transform.specs.Adding.{within, AddsAt, LieWithin};
+ghost use Rattle.par2_transform.specs.Adding.{LieWithin};
 ghost use Rattle.par2_transform.specs.Blocks.{AreBlocks, AreCoefficients, EachBlock, GathersWindow, HaveShape, IsGathered, class_sum_at};
 ghost use Rattle.par2_transform.specs.Chirps.{chirp_inverse, AreInverses};
 ghost use Rattle.par2_transform.specs.Columns.{byte_lists, words_at, recovered, AreByteLists};
-ghost use Rattle.par2_transform.specs.Grids.{IsAdded};
+ghost use Rattle.par2_transform.specs.Grids.{HasSize, IsAdded};
+ghost use Rattle.par2_transform.specs.Outputs.{AddsIn};
 ghost use Rattle.par2_transform.specs.Plans.{cut_of};
 ghost use Rattle.par2_transform.specs.Transforms.{Reaches, coefficient_of};
 
 use crate::blocks::{Block, add_all, clear_all, gather_all};
 use crate::cosets::values_at_points;
 use crate::exponents::{Slices, bytes_from};
-use crate::outputs::Columns;
-use crate::plan::Plan;
+use crate::outputs::{Columns, Places};
+use crate::plan::{Class, Plan};
 use crate::powers::chirp_inverse;
 use crate::rows::Rows;
 use par2_gf16::{Factor, Gf};
@@ -50,24 +51,23 @@ pub(crate) struct Windows<'a> {
 }
 
 impl<'a> Windows<'a> {
-    /// Plans the sums of the slices for `outputs` outputs of `words` words each, from exponent `first` on. `room` is
-    /// the memory for rows, in bytes.
+    /// Plans the sums of the slices for outputs that belong to the exponents from `first` on. `room` is the memory for
+    /// rows, in bytes.
     pub(crate) fn new(
         alloc: Global,
         gf: &'a Gf,
         buffers: &'a [&'a [u8]],
-        words: usize,
         first: u32,
-        outputs: usize,
+        outputs: &Places,
         room: usize,
     ) -> Result<Windows<'a>, AllocError>
         requires slices { length buffers.now ≤ 32768 }
-        requires outputs { outputs ≤ 2 ^ 32 }
+        requires outputs { length outputs.now.places.now ≤ 2 ^ 32 }
         ensures slices { IfOk result (λ windows. windows.slices ≡ byte_lists buffers.now) }
         ensures first { IfOk result (λ windows. windows.first ≡ first) }
     {
         let slices = Slices::new(alloc, buffers)?;
-        let plan = Plan::new(slices.exponents(), outputs, words, room);
+        let plan = Plan::new(slices.exponents(), outputs.len(), outputs.words, room);
         let inverses = inverse_chirps(alloc, gf, plan.classes, plan.windows * plan.window)?;
         Ok(Windows {
             gf,
@@ -124,12 +124,10 @@ impl<'a> Windows<'a> {
         requires class { r < self.now.plan.classes }
         requires window { a < self.now.plan.windows }
         // The rows and the blocks have the shape of the plan.
-        requires levels { rows.old.levels ≡ self.now.plan.levels }
-        requires words { rows.old.words ≡ self.now.plan.columns }
+        requires rows { HasSize self.now.plan.levels self.now.plan.columns rows.old }
         requires blocks { HaveShape (cut_of self.now.plan) self.now.plan.columns blocks.old }
         // The rows keep their shape; what they hold is scratch.
-        ensures levels { rows.new.levels ≡ rows.old.levels }
-        ensures words { rows.new.words ≡ rows.old.words }
+        ensures rows { HasSize self.now.plan.levels self.now.plan.columns rows.new }
         // Each block gathers the values of this window and nothing else.
         ensures gathered { EachBlock
             (GathersWindow (cut_of self.now.plan) self.now.slices r a from) blocks.old blocks.new }
@@ -143,12 +141,10 @@ impl<'a> Windows<'a> {
     fn gather(&self, r: usize, from: usize, rows: &mut Rows, blocks: &mut [Block])
         // The class is the plan's, and the rows and the blocks have its shape.
         requires class { r < self.now.plan.classes }
-        requires levels { rows.old.levels ≡ self.now.plan.levels }
-        requires words { rows.old.words ≡ self.now.plan.columns }
+        requires rows { HasSize self.now.plan.levels self.now.plan.columns rows.old }
         requires blocks { HaveShape (cut_of self.now.plan) self.now.plan.columns blocks.old }
         // The rows keep their shape; what they hold is scratch.
-        ensures levels { rows.new.levels ≡ rows.old.levels }
-        ensures words { rows.new.words ≡ rows.old.words }
+        ensures rows { HasSize self.now.plan.levels self.now.plan.columns rows.new }
         // Each block holds the sums of all windows of this class, whatever it held before.
         ensures gathered { EachBlock
             (IsGathered (cut_of self.now.plan) self.now.slices r from self.now.plan.windows)
@@ -171,8 +167,7 @@ impl<'a> Windows<'a> {
     )
         // The class is the plan's, and the rows and the blocks have its shape.
         requires class { r < self.now.plan.classes }
-        requires levels { rows.old.levels ≡ self.now.plan.levels }
-        requires words { rows.old.words ≡ self.now.plan.columns }
+        requires rows { HasSize self.now.plan.levels self.now.plan.columns rows.old }
         requires blocks { AreBlocks (cut_of self.now.plan) self.now.plan.columns self.now.first
             self.now.plan.block blocks.old }
         // The blocks cover the outputs.
@@ -184,22 +179,24 @@ impl<'a> Windows<'a> {
         requires room { LieWithin columns.now.outputs.words columns.now.outputs.places.now
             (lists_of buffers.old) }
         // The rows and the blocks keep their shape, so that the next class can use them.
-        ensures levels { rows.new.levels ≡ rows.old.levels }
-        ensures words { rows.new.words ≡ rows.old.words }
+        ensures rows { HasSize self.now.plan.levels self.now.plan.columns rows.new }
         ensures count { length blocks.new ≡ length blocks.old }
         ensures blocks { AreBlocks (cut_of self.now.plan) self.now.plan.columns
             self.now.first self.now.plan.block blocks.new }
         // The part of class r is added to these columns and to nothing else.
-        ensures added { AddsAt columns.now.outputs.places.now columns.now.outputs.words
-            (λ t p. within columns.now.from columns.now.to p (class_sum_at (cut_of self.now.plan) (words_at self.now.slices p)
-            (self.now.first + t) r))
+        ensures added { AddsIn columns.now (λ t p. class_sum_at (cut_of self.now.plan)
+            (words_at self.now.slices p) (self.now.first + t) r)
             (lists_of buffers.old) (lists_of buffers.new) }
     {
         if r == 0 && self.plan.classes == 3 {
             return;
         }
         self.gather(r, columns.from, rows, blocks);
-        add_all(self.gf, &self.plan, r, columns, blocks, buffers);
+        let class = Class {
+            plan: self.plan,
+            number: r,
+        };
+        add_all(self.gf, &class, columns, blocks, buffers);
     }
 
     /// Adds the recovery slices to these columns of the outputs, class by class.
@@ -211,8 +208,7 @@ impl<'a> Windows<'a> {
         buffers: &mut [Vec<u8>],
     )
         // The rows and the blocks have the shape of the plan.
-        requires levels { rows.old.levels ≡ self.now.plan.levels }
-        requires words { rows.old.words ≡ self.now.plan.columns }
+        requires rows { HasSize self.now.plan.levels self.now.plan.columns rows.old }
         requires blocks { AreBlocks (cut_of self.now.plan) self.now.plan.columns self.now.first
             self.now.plan.block blocks.old }
         // The blocks cover the outputs.
@@ -224,14 +220,12 @@ impl<'a> Windows<'a> {
         requires room { LieWithin columns.now.outputs.words columns.now.outputs.places.now
             (lists_of buffers.old) }
         // The rows and the blocks keep their shape, so that the next columns can use them.
-        ensures levels { rows.new.levels ≡ rows.old.levels }
-        ensures words { rows.new.words ≡ rows.old.words }
+        ensures rows { HasSize self.now.plan.levels self.now.plan.columns rows.new }
         ensures count { length blocks.new ≡ length blocks.old }
         ensures blocks { AreBlocks (cut_of self.now.plan) self.now.plan.columns
             self.now.first self.now.plan.block blocks.new }
         // The recovery slices are added in these columns, and nothing else changes.
-        ensures added { AddsAt columns.now.outputs.places.now columns.now.outputs.words
-            (λ t p. within columns.now.from columns.now.to p (recovered self.now.slices (self.now.first + t) p))
+        ensures added { AddsIn columns.now (λ t p. recovered self.now.slices (self.now.first + t) p)
             (lists_of buffers.old) (lists_of buffers.new) }
     {
         for r in 0..self.plan.classes {

@@ -13,10 +13,8 @@ add_columns-requires c =
     record {
       sources = c.requires.sources;
       count = subst (λ (o : Places). length o.places.now ≡ length c.args.self.now.points.items) (sym is.outputs) c.requires.count;
-      rows = l.invariant.rows_levels;
-      sums = l.invariant.sums_levels;
-      words = l.invariant.rows_words ∙ sym l.invariant.sums_words;
-      columns = omega (arith, is.from, is.to, l.invariant.rows_words);
+      levels = l.invariant.levels;
+      columns = omega (arith, is.from, is.to, l.invariant.words);
       room = columns_within outputs c.columns-columns.result _ (lists_of c.args.buffers.now) (lists_of l.buffers) is.outputs l.invariant.added c.requires.room;
     }
 
@@ -24,10 +22,8 @@ pub loop-k-init : goal.loop-k-init
 loop-k-init c =
     let self = c.args.self.now in
     record {
-      rows_levels = c.in_ok-rows.ensures.levels;
-      rows_words = c.in_ok-rows.ensures.words;
-      sums_levels = c.in_ok-sums.ensures.levels;
-      sums_words = c.in_ok-sums.ensures.words;
+      levels = c.in_ok-rows.ensures.levels;
+      words = c.in_ok-rows.ensures.words;
       added = no_words c.args.outputs.now c.columns_for-width.result (λ t p. quotient_sum self.numerators.sequence.items self.points.items self.factors.items (words_at (byte_lists c.args.sources.now) p) t) (lists_of c.args.buffers.now);
     }
 
@@ -40,10 +36,8 @@ loop-k-preserved c =
     let e = c.add_columns.ensures in
     let low = begins c.args.outputs.now.words width l.k c.div_ceil-k-end.result (let some = c.columns_for-width.ensures.0 in some) c.div_ceil-k-end.ensures c.loop-k-test.true in
     record {
-      rows_levels = e.rows_levels ∙ l.invariant.rows_levels;
-      rows_words = e.rows_words ∙ l.invariant.rows_words;
-      sums_levels = e.sums_levels ∙ l.invariant.sums_levels;
-      sums_words = e.sums_words ∙ l.invariant.sums_words;
+      levels = e.levels ∙ l.invariant.levels;
+      words = e.words ∙ l.invariant.words;
       added = next_words c.args.outputs.now c.columns-columns.result width l.k (λ t p. quotient_sum self.numerators.sequence.items self.points.items self.factors.items (words_at (byte_lists c.args.sources.now) p) t) (lists_of c.args.buffers.now) (lists_of l.buffers) (lists_of c.add_columns.new.buffers)
           l.invariant.added low is.outputs is.from is.to e.added;
     }

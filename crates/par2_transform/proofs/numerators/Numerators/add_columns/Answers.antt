@@ -1,4 +1,4 @@
-use Rattle.par2_transform.proofs.Common.{rules, ◌+◌, ◌-◌, ◌<◌, ◌≡◌, ◌∙◌, ap, arith, length, mul, within, lists_of, byte_lists, words_at, numerator}
+use Rattle.par2_transform.proofs.Common.{rules, ◌+◌, ◌-◌, ◌<◌, ◌≡◌, ◌∙◌, sym, ap, arith, length, mul, within, lists_of, byte_lists, words_at, numerator}
 use Rattle.par2_transform.proofs.LocatorLaws.{none_added_yet, next_row_added, numerator-lt, one_times}
 use Rattle.par2_transform.proofs.numerators.Numerators.add_columns.Goals as goal
 
@@ -19,6 +19,12 @@ loop-t-preserved c =
     let place : c.args.columns.now.from + (p - c.args.columns.now.from) ≡ p = omega (arith, first) in
     ap (mul 1)
     (c.row.ensures.words (p - c.args.columns.now.from)
-    ∙ numerators.each (p - c.args.columns.now.from) l.t (omega (arith, first, last, c.requires.columns, c.requires.words)) (omega (arith, low, c.requires.count))
+    ∙ numerators.each (p - c.args.columns.now.from) l.t (omega (arith, first, last, c.requires.columns, c.args.scratch.now.same_words)) (omega (arith, low, c.requires.count))
     ∙ ap (λ q. numerator self.sequence.items (words_at sources q) l.t) place)
     ∙ one_times (numerator self.sequence.items (words_at sources p) l.t) (numerator-lt self.sequence.items sources p l.t c.sum.ensures.bytes self.elements))
+
+pub returns-clause-levels : goal.returns-clause-levels
+returns-clause-levels c = sym c.sum.new.scratch.same_levels ∙ c.sum.ensures.numerators.levels ∙ c.args.scratch.now.same_levels
+
+pub returns-clause-words : goal.returns-clause-words
+returns-clause-words c = sym c.sum.new.scratch.same_words ∙ c.sum.ensures.numerators.words ∙ c.args.scratch.now.same_words

@@ -3,30 +3,24 @@ use Rattle.par2_transform.proofs.LocatorLaws.{numerators_are}
 use Rattle.par2_transform.proofs.numerators.Numerators.sum.Goals as goal
 
 pub fill-requires : goal.fill-requires
-fill-requires c = subst (λ m. length c.args.sources.now ≤ 2 ^ m) (sym c.requires.rows) (omega (arith, c.requires.count, c.args.self.now.fit))
+fill-requires c = subst (λ m. length c.args.sources.now ≤ 2 ^ m) (sym c.requires.levels) (omega (arith, c.requires.count, c.args.self.now.fit))
 
 pub gather_rows-requires : goal.gather_rows-requires
 gather_rows-requires c =
-    let sums_levels = c.clear.ensures.levels ∙ c.requires.sums in
+    let sums_levels = c.clear.ensures.levels ∙ (c.args.scratch.now.same_levels ∙ c.requires.levels) in
     record {
       weights = ap (λ (xs : List ℕ). length xs) c.deref.ensures.value ∙ c.args.self.now.weighed.count ∙ ap (λ m. 2 ^ m) (sym sums_levels);
-      levels = c.values_at_points.ensures.levels ∙ c.fill.ensures.rows.levels ∙ c.requires.rows ∙ sym sums_levels;
-      words = c.values_at_points.ensures.words ∙ c.fill.ensures.rows.words ∙ c.requires.words ∙ sym c.clear.ensures.words;
+      levels = c.values_at_points.ensures.levels ∙ c.fill.ensures.rows.levels ∙ c.requires.levels ∙ sym sums_levels;
+      words = c.values_at_points.ensures.words ∙ c.fill.ensures.rows.words ∙ (sym c.args.scratch.now.same_words) ∙ sym c.clear.ensures.words;
     }
-
-pub returns-clause-levels : goal.returns-clause-levels
-returns-clause-levels c = c.values_at_points.ensures.levels ∙ c.fill.ensures.rows.levels
-
-pub returns-clause-words : goal.returns-clause-words
-returns-clause-words c = c.values_at_points.ensures.words ∙ c.fill.ensures.rows.words
 
 pub returns-clause-numerators : goal.returns-clause-numerators
 returns-clause-numerators c =
     let self = c.args.self.now in
     let many : length (byte_lists c.args.sources.now) ≡ length c.args.sources.now = length-map c.args.sources.now (λ (x : Bor (List ℕ)). x.now) in
-    numerators_are self.count self.sequence.items self.weights.items (byte_lists c.args.sources.now) self.levels c.args.from c.args.rows.now c.fill.new.rows c.values_at_points.new.rows c.args.sums.now c.clear.new.self c.gather_rows.new.sums c.power_sums.new.rows
-    (many ∙ c.requires.count) self.fit c.fill.ensures.bytes self.weighed c.requires.rows c.requires.sums c.requires.words
-    (subst (λ n. HaveFirst n (λ k s. words_at (byte_lists c.args.sources.now) (c.args.from + k) s) c.args.rows.now c.fill.new.rows) (sym many) c.fill.ensures.rows)
+    numerators_are self.count self.sequence.items self.weights.items (byte_lists c.args.sources.now) self.levels c.args.from c.args.scratch.now.rows c.fill.new.rows c.values_at_points.new.rows c.args.scratch.now.sums c.clear.new.self c.gather_rows.new.sums c.power_sums.new.rows
+    (many ∙ c.requires.count) self.fit c.fill.ensures.bytes self.weighed c.requires.levels (c.args.scratch.now.same_levels ∙ c.requires.levels) (sym c.args.scratch.now.same_words)
+    (subst (λ n. HaveFirst n (λ k s. words_at (byte_lists c.args.sources.now) (c.args.from + k) s) c.args.scratch.now.rows c.fill.new.rows) (sym many) c.fill.ensures.rows)
     (subst (λ n. EachColumn (AreValues n c.fill.new.rows.levels) c.fill.new.rows c.values_at_points.new.rows) (sym many) c.values_at_points.ensures) c.clear.ensures.levels c.clear.ensures.words c.clear.ensures.zero
     (subst (λ (xs : List ℕ). RowsGathered (slice_index xs) c.values_at_points.new.rows (2 ^ c.clear.new.self.levels) c.clear.new.self c.gather_rows.new.sums) c.deref.ensures.value c.gather_rows.ensures)
     c.power_sums.ensures

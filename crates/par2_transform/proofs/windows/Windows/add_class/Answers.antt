@@ -1,7 +1,7 @@
-use Rattle.par2_transform.proofs.Common.{arith, ◌+◌, ◌*◌, ◌^◌, ◌<◌, ◌≤◌, ◌∙◌, sym, subst, length, lists_of, within, AddsAt, class_sum_at, words_at, cut_of}
+use Rattle.par2_transform.proofs.Common.{arith, ◌+◌, ◌*◌, ◌^◌, ◌<◌, ◌≤◌, sym, subst, length, lists_of, within, AddsAt, class_sum_at, words_at, cut_of}
 use Rattle.par2_transform.proofs.BlockLaws.{kept_block}
-use Rattle.par2_transform.proofs.WindowLaws.{blocks_have_shape}
-use Rattle.par2_transform.proofs.ClassLaws.{class_added, nothing_added, exponent-le}
+use Rattle.par2_transform.proofs.WindowLaws.{blocks_have_shape, shape_kept}
+use Rattle.par2_transform.proofs.ClassLaws.{class_added, nothing_added}
 use Rattle.par2_transform.proofs.windows.Windows.add_class.Goals as goal
 
 pub gather-requires-clause-blocks : goal.gather-requires-clause-blocks
@@ -14,36 +14,22 @@ returns-then-self-eq3-clause-added c =
     subst (λ r. AddsAt c.args.columns.now.outputs.places.now c.args.columns.now.outputs.words (λ t p. within c.args.columns.now.from c.args.columns.now.to p (class_sum_at (cut_of self.plan) (words_at self.slices p) (self.first + t) r)) buffers buffers) (sym c.if-r-eq0.true)
     (nothing_added c.args.columns.now.outputs.places.now c.args.columns.now.outputs.words (cut_of self.plan) self.slices self.first c.args.columns.now.from c.args.columns.now.to buffers c.if-self-eq3.true)
 
-pub add_all-requires-clause-exponents : goal.add_all-requires-clause-exponents
-add_all-requires-clause-exponents c = λ j h.
-    let self = c.args.self.now in
-    let blocks = c.args.blocks.now in
-    let gathered = c.gather.ensures.gathered in
-    let low : j < length blocks = (let count = gathered.count in omega (arith, count, h)) in
-    let same = (gathered.done j low).kept.exponent in
-    let small = exponent-le (cut_of self.plan) self.plan.columns self.first self.plan.block blocks c.requires.blocks c.requires.few j low in
-    omega (arith, same, small)
-
 pub returns-clause-added : goal.returns-clause-added
 returns-clause-added c =
     let self = c.args.self.now in
     class_added c.args.columns.now.outputs.places.now c.args.columns.now.outputs.words (cut_of self.plan) self.slices self.plan.columns self.plan.block c.args.r c.args.columns.now.from c.args.columns.now.to self.first c.args.blocks.now c.gather.new.blocks (lists_of c.args.buffers.now) (lists_of c.add_all.new.buffers)
     self.few self.bytes c.requires.blocks c.gather.ensures.gathered self.plan.fit self.plan.some.1.0 c.requires.covered c.requires.columns c.add_all.ensures.added
 
+pub add_all-requires-clause-shape : goal.add_all-requires-clause-shape
+add_all-requires-clause-shape c =
+    let plan = c.args.self.now.plan in
+    shape_kept (cut_of plan) c.args.self.now.slices c.args.r c.args.columns.now.from plan.windows plan.columns c.args.blocks.now c.gather.new.blocks c.gather.ensures.gathered
+    (blocks_have_shape (cut_of plan) plan.columns c.args.self.now.first plan.block c.args.blocks.now c.requires.blocks)
+
 pub add_all-requires-clause-few : goal.add_all-requires-clause-few
 add_all-requires-clause-few c =
     let block = c.args.self.now.plan.block in
     subst (λ n. n * block ≤ 2 ^ 34) (sym c.gather.ensures.gathered.count) (let few = c.requires.few in omega (arith, few))
-
-pub add_all-requires-clause-levels : goal.add_all-requires-clause-levels
-add_all-requires-clause-levels c = λ j h.
-    let low = subst (λ n. j < n) c.gather.ensures.gathered.count h in
-    (c.gather.ensures.gathered.done j low).kept.levels ∙ (c.requires.blocks j low).levels
-
-pub add_all-requires-clause-words : goal.add_all-requires-clause-words
-add_all-requires-clause-words c = λ j h.
-    let low = subst (λ n. j < n) c.gather.ensures.gathered.count h in
-    (c.gather.ensures.gathered.done j low).kept.words ∙ (c.requires.blocks j low).words
 
 pub returns-clause-blocks : goal.returns-clause-blocks
 returns-clause-blocks c = λ j h.

@@ -13,8 +13,7 @@ add_classes-requires c =
     let is = c.columns-columns.ensures in
     let count = ap (λ (bs : List Outputs). length bs) c.as_mut_slice.ensures.value ∙ l.invariant.count in
     record {
-      levels = l.invariant.levels;
-      words = l.invariant.words;
+      rows = l.invariant.rows;
       blocks = subst (λ (bs : List Outputs). AreBlocks (cut_of plan) plan.columns self.first plan.block bs) (sym c.as_mut_slice.ensures.value) l.invariant.are;
       covered = subst (λ (o : Places). length o.places.now ≤ length c.as_mut_slice.result.now * plan.block) (sym is.outputs)
           (subst (λ n. length c.args.outputs.now.places.now ≤ n * plan.block) (sym count) (subst (λ n. n ≤ length c.in_ok-blocks.blocks.items * plan.block) c.len.ensures c.in_ok-blocks.ensures.covered));
@@ -27,8 +26,7 @@ pub loop-k-init : goal.loop-k-init
 loop-k-init c =
     let self = c.args.self.now in
     record {
-      levels = c.in_ok-rows.ensures.levels;
-      words = c.in_ok-rows.ensures.words;
+      rows = record { levels = c.in_ok-rows.ensures.levels; words = c.in_ok-rows.ensures.words };
       count = refl;
       are = c.in_ok-blocks.ensures.are;
       added = no_words c.args.outputs.now self.plan.columns (λ t p. recovered self.slices (self.first + t) p) (lists_of c.args.buffers.now);
@@ -46,8 +44,7 @@ loop-k-preserved c =
     let after = with_items_is l.blocks blocks size in
     let low = begins c.args.outputs.now.words plan.columns l.k c.div_ceil-k-end.result (let some = plan.some.1.1 in omega (arith, some)) c.div_ceil-k-end.ensures c.loop-k-test.true in
     record {
-      levels = e.levels ∙ l.invariant.levels;
-      words = e.words ∙ l.invariant.words;
+      rows = e.rows;
       count = ap (λ (bs : List Outputs). length bs) after ∙ e.count ∙ ap (λ (bs : List Outputs). length bs) c.as_mut_slice.ensures.value ∙ l.invariant.count;
       are = subst (λ (bs : List Outputs). AreBlocks (cut_of plan) plan.columns self.first plan.block bs) (sym after) e.blocks;
       added = next_words c.args.outputs.now c.columns-columns.result plan.columns l.k (λ t p. recovered self.slices (self.first + t) p) (lists_of c.args.buffers.now) (lists_of l.buffers) (lists_of c.add_classes.new.buffers)

@@ -1,19 +1,18 @@
-use Rattle.par2_transform.proofs.Common.{◌∙◌, cut_of}
+use Rattle.par2_transform.proofs.Common.{cut_of}
 use Rattle.par2_transform.proofs.WindowLaws.{nothing_so_far, one_window_more, shape_kept}
 use Rattle.par2_transform.proofs.windows.Windows.gather.Goals as goal
 
 pub loop-a-init : goal.loop-a-init
-loop-a-init c = nothing_so_far (cut_of c.args.self.now.plan) c.args.self.now.slices c.args.r c.args.from c.args.rows.now c.args.blocks.now c.clear_all.new.blocks c.clear_all.ensures
-
-pub gather_window-requires-clause-levels : goal.gather_window-requires-clause-levels
-gather_window-requires-clause-levels c = c.loop-a.invariant.levels ∙ c.requires.levels
-
-pub gather_window-requires-clause-words : goal.gather_window-requires-clause-words
-gather_window-requires-clause-words c = c.loop-a.invariant.words ∙ c.requires.words
+loop-a-init c = record {
+  rows = c.requires.rows;
+  blocks = nothing_so_far (cut_of c.args.self.now.plan) c.args.self.now.slices c.args.r c.args.from c.args.blocks.now c.clear_all.new.blocks c.clear_all.ensures;
+}
 
 pub gather_window-requires-clause-blocks : goal.gather_window-requires-clause-blocks
-gather_window-requires-clause-blocks c = shape_kept (cut_of c.args.self.now.plan) c.args.self.now.slices c.args.r c.args.from c.loop-a.a c.args.self.now.plan.columns c.args.rows.now c.loop-a.rows c.args.blocks.now c.loop-a.blocks c.loop-a.invariant c.requires.blocks
+gather_window-requires-clause-blocks c = shape_kept (cut_of c.args.self.now.plan) c.args.self.now.slices c.args.r c.args.from c.loop-a.a c.args.self.now.plan.columns c.args.blocks.now c.loop-a.blocks c.loop-a.invariant.blocks c.requires.blocks
 
 pub loop-a-preserved : goal.loop-a-preserved
-loop-a-preserved c = one_window_more (cut_of c.args.self.now.plan) c.args.self.now.slices c.args.r c.args.from c.loop-a.a c.args.rows.now c.loop-a.rows c.gather_window.new.rows c.args.blocks.now c.loop-a.blocks c.gather_window.new.blocks
-    c.loop-a.invariant c.gather_window.ensures.levels c.gather_window.ensures.words c.gather_window.ensures.gathered
+loop-a-preserved c = record {
+  rows = c.gather_window.ensures.rows;
+  blocks = one_window_more (cut_of c.args.self.now.plan) c.args.self.now.slices c.args.r c.args.from c.loop-a.a c.args.blocks.now c.loop-a.blocks c.gather_window.new.blocks c.loop-a.invariant.blocks c.gather_window.ensures.gathered;
+}
