@@ -26,7 +26,7 @@ pub use Rattle.std.specs.Str.{bytes_eq}
 pub use Rattle.std.specs.Vec.Iter.{into_iter_items, into_iter_len}
 pub use Rattle.par2_files.specs.ChangeViews.{change_of}
 pub use Rattle.par2_repair.specs.Drafts.{HasItsMd5s, IsDraft, IsDraftBy, has_digest, wrong_digest}
-pub use Rattle.par2_repair.specs.Findings.{HoldsMatches, is_sought, lost_from, pair_cmp, pairs_sought, report_by, said_of}
+pub use Rattle.par2_repair.specs.Findings.{HoldsMatches, is_sought, numbers_of_lost, pair_cmp, pairs_sought, report_by, said_of}
 pub use Rattle.par2_repair.specs.Repairing.{AreRestored, HoldsAsides, IsAsDescribed, IsWholeWhereMatched, WritesAsDescribed, files_removed, known_by, matches_taken, names_there, place_by, repair_by, writes}
 pub use Rattle.par2_repair.specs.Restoring.{chosen_at, known_in, md5s_of, target_at, targets_among, undetermined_fault}
 pub use Rattle.par2_repair.specs.SliceBytes.{slices_of, slice_bytes, windows_and_buffers}

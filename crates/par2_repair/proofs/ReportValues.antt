@@ -1,5 +1,5 @@
 -- A report by what is found is that of the definitions.
-use Rattle.par2_repair.proofs.Common.{◌≡◌, ◌<◌, ◌≤◌, ℕ, suc, arith, ◌+◌, ◌||◌, List, [], ◌∷◌, length, map, refl, sym, ap, ap₂, ◌∙◌, Bool, true, false, not, cond, false_from_ne_true, Option, is_none, is_some, filter, option_map, option_and_then, None, Some, enumerate_from, list_any, AllByRecursion, length-map, bytes_eq, subst, IsDistinct, is_among, eq_by_cmp, slice_cmp, nat_cmp, BTreeMap, AreDistinct, among_some, clash, distinct_from_std, std_from_distinct, itself, same_either_way, Fault, Pair, found, rank, Folder, bytes_of, has, ParSet, Target, all_pairs, is_incomplete, matches, lost, survivors, candidates, known, set_in, Complete, Report, TargetReport, incomplete_state, report_of_target, report_of, report_in, set_in_reads, sound_of, present_searched, size_positive, sized_from_counted, targets_found, HoldsMatches, is_sought, lost_from, pair_cmp, pairs_sought, report_by, said_of, Ok, Err}
+use Rattle.par2_repair.proofs.Common.{◌≡◌, ◌<◌, ◌≤◌, ℕ, suc, arith, ◌+◌, ◌||◌, List, [], ◌∷◌, length, map, refl, sym, ap, ap₂, ◌∙◌, Bool, true, false, not, cond, false_from_ne_true, Option, is_none, is_some, filter, option_map, option_and_then, None, Some, enumerate_from, list_any, AllByRecursion, length-map, bytes_eq, subst, IsDistinct, is_among, eq_by_cmp, slice_cmp, nat_cmp, BTreeMap, AreDistinct, among_some, clash, distinct_from_std, std_from_distinct, itself, same_either_way, Fault, Pair, found, rank, Folder, bytes_of, has, ParSet, Target, all_pairs, is_incomplete, matches, lost, survivors, candidates, known, set_in, Complete, Report, TargetReport, incomplete_state, report_of_target, report_of, report_in, set_in_reads, sound_of, present_searched, size_positive, sized_from_counted, targets_found, HoldsMatches, is_sought, numbers_of_lost, pair_cmp, pairs_sought, report_by, said_of, Ok, Err}
 use Rattle.std.proofs.lemmas.Bool.{or_parts}
 use Rattle.std.specs.BTreeMap.{get}
 use Rattle.std.specs.Option.{option_map_or}
@@ -15,11 +15,11 @@ use Rattle.par2_repair.proofs.RepairParts.{names_in_pairs}
 -- ---- numbers
 
 -- numbers from n on are less than the end
-pub lost_below : (is_lost : Pair → Bool) (n m : ℕ) (pairs : List Pair) → n + length pairs ≤ m → AllByRecursion (λ i. i < m) (lost_from n is_lost pairs)
+pub lost_below : (is_lost : Pair → Bool) (n m : ℕ) (pairs : List Pair) → n + length pairs ≤ m → AllByRecursion (λ i. i < m) (numbers_of_lost n is_lost pairs)
 lost_below is_lost n m [] h = tt
 lost_below is_lost n m (pair ∷ pairs) h = step (is_lost pair) (lost_below is_lost (n + 1) m pairs (omega (arith, h)))
   where
-    step : (b : Bool) → AllByRecursion (λ i. i < m) (lost_from (n + 1) is_lost pairs) → AllByRecursion (λ i. i < m) (map (λ z. z.0) (cond b ((n, pair) ∷ filter (λ z. is_lost z.1) (enumerate_from (n + 1) pairs)) (filter (λ z. is_lost z.1) (enumerate_from (n + 1) pairs))))
+    step : (b : Bool) → AllByRecursion (λ i. i < m) (numbers_of_lost (n + 1) is_lost pairs) → AllByRecursion (λ i. i < m) (map (λ z. z.0) (cond b ((n, pair) ∷ filter (λ z. is_lost z.1) (enumerate_from (n + 1) pairs)) (filter (λ z. is_lost z.1) (enumerate_from (n + 1) pairs))))
     step true k = (omega (arith, h), k)
     step false k = k
 
@@ -27,7 +27,7 @@ lost_below is_lost n m (pair ∷ pairs) h = step (is_lost pair) (lost_below is_l
 abbrev AreLost : (Pair → Option (List ℕ)) → (Pair → Bool) → List Pair → Type 0
 AreLost f is_lost pairs = AllByRecursion (λ pair. is_lost pair ≡ is_none (f pair)) pairs
 
-numbered : (f : Pair → Option (List ℕ)) (is_lost : Pair → Bool) (n : ℕ) (pairs : List Pair) → AreLost f is_lost pairs → lost_from n is_lost pairs ≡ map (λ z. z.0) (filter (λ z. is_none z.1) (enumerate_from n (map f pairs)))
+numbered : (f : Pair → Option (List ℕ)) (is_lost : Pair → Bool) (n : ℕ) (pairs : List Pair) → AreLost f is_lost pairs → numbers_of_lost n is_lost pairs ≡ map (λ z. z.0) (filter (λ z. is_none z.1) (enumerate_from n (map f pairs)))
 numbered f is_lost n [] h = refl
 numbered f is_lost n (pair ∷ pairs) h = step (is_lost pair) (is_none (f pair)) h.0 _ _ (numbered f is_lost (n + 1) pairs h.1)
   where
@@ -135,6 +135,6 @@ module _ (folder : Folder) (base : List ℕ) (extras : List (List ℕ)) where
           let sound = sound_of folder base set (set_in_reads folder base extras set reads).0 in
           let said : map (said_of folder tree is_lost) set.targets ≡ (report_of folder set names).targets =
           said_so folder set names tree held finder is_lost set.targets (states folder set names tree held (distinct_from_std _ sound.names_once)) are_lost ∙ sym (by_target folder set names) in
-          let missing : lost_from 0 is_lost (all_pairs set) ≡ lost (known folder set names) = numbered finder is_lost 0 (all_pairs set) (all-flat_map _ _ (λ (t : Target). t.pairs) (λ t h. h) set.targets are_lost) in
+          let missing : numbers_of_lost 0 is_lost (all_pairs set) ≡ lost (known folder set names) = numbered finder is_lost 0 (all_pairs set) (all-flat_map _ _ (λ (t : Target). t.pairs) (λ t h. h) set.targets are_lost) in
           accepted_in ∙ ap Ok (sym (ap₂ (λ (reports : List TargetReport) (numbers : List ℕ).
           let r : Report = record { set_id = set.id; targets = reports; lost = length numbers; rank = rank numbers (survivors set) } in r) said missing))

@@ -53,13 +53,13 @@ said_of folder matches is_lost t = record {
 }
 
 -- the numbers of the lost slices among those with these checksums, counted from n
-abbrev pub lost_from : ℕ → (Pair → Bool) → List Pair → List ℕ
-lost_from n is_lost pairs = map (λ z. z.0) (filter (λ z. is_lost z.1) (enumerate_from n pairs))
+abbrev pub numbers_of_lost : ℕ → (Pair → Bool) → List Pair → List ℕ
+numbers_of_lost n is_lost pairs = map (λ z. z.0) (filter (λ z. is_lost z.1) (enumerate_from n pairs))
 
 -- the report on a set, by its matches and the lost slices
 abbrev pub report_by : Folder → ParSet → BTreeMap (List ℕ) (Option (List ℕ)) → (Pair → Bool) → Report
 report_by folder set matches is_lost =
-    let lost = lost_from 0 is_lost (all_pairs set) in
+    let lost = numbers_of_lost 0 is_lost (all_pairs set) in
     record {
       set_id = set.id;
       targets = map (said_of folder matches is_lost) set.targets;

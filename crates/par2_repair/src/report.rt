@@ -13,7 +13,7 @@ ghost use Rattle.par2_spec.specs.Folders.{has};
 ghost use Rattle.par2_spec.specs.Rank as ranks;
 ghost use Rattle.par2_spec.specs.Reports.{Complete, is_complete, incomplete_state, verdict_of, report_in, IsVerdictIn};
 ghost use Rattle.par2_spec.specs.Search.{survivors};
-ghost use Rattle.par2_repair.specs.Findings.{lost_from, pair_cmp, report_by, said_of};
+ghost use Rattle.par2_repair.specs.Findings.{numbers_of_lost, pair_cmp, report_by, said_of};
 ghost use Rattle.par2_repair.specs.ReportViews.{state_view, target_report_of, report_view};
 
 use crate::matching::Matches;
@@ -154,7 +154,7 @@ fn target_reports(
 // The numbers of the lost slices, increasing. They count the slices of the set, which have these checksums, from 0.
 fn lost_numbers(alloc: Global, pairs: &[Pair], lost: &BTreeSet<Pair>) -> Result<Vec<u32>>
     requires { length pairs.now ≤ 32768 }
-    ensures { Lists (lost_from 0 (contains pair_cmp lost.now) pairs.now) result }
+    ensures { Lists (numbers_of_lost 0 (contains pair_cmp lost.now) pairs.now) result }
 {
     let mut numbers = Vec::new(alloc);
     for i in 0..pairs.len() {

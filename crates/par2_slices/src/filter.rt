@@ -59,7 +59,8 @@ fn clear_zero(summary: &mut [u32], place: usize, byte: u8)
     requires { place < 32 * length summary.old }
     ensures len { length summary.new ≡ length summary.old }
     ensures here { byte ≢ 0 → HasBit summary.old place → HasBit summary.new place }
-    ensures kept { (other : ℕ) → other ≢ place → HasBit summary.old other → HasBit summary.new other }
+    ensures kept { (other : ℕ) → other ≢ place
+        → HasBit summary.old other → HasBit summary.new other }
 {
     if byte == 0 {
         summary[place / 32] &= !(1 << (place % 32));

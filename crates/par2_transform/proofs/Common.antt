@@ -33,7 +33,7 @@ pub use Rattle.par2_transform.specs.Chirps.{AreWordsOfFirst, AreWeights}
 unfoldable pub use Rattle.par2_transform.specs.Chirps.{chirp, chirp_inverse, coprimes_below, triangle, word_at_power}
 pub use Rattle.par2_transform.specs.Columns.{AreByteLists, AreNumbers, recovered, byte_lists, words_at}
 pub use Rattle.par2_transform.specs.Cosets.{AreListedValues, IsListed, listed_by}
-pub use Rattle.par2_transform.specs.Evaluations.{AreShort, AreValues, from, value}
+pub use Rattle.par2_transform.specs.Evaluations.{AreZeroFrom, AreValues, from, value}
 pub use Rattle.par2_transform.specs.Grids.{AreCopied, AreRows, CopiesWords, EachColumn, Grid, HasSize, IsAdded, column}
 pub use Rattle.par2_transform.specs.Locators.{AreFit, AreNumbered, AreNumerators, AreValuesOf, HaveFirst, IsWeighed, in_coset, numerator, quotient_coefficient, quotient_sum}
 pub use Rattle.par2_transform.specs.Plans.{cut_of}

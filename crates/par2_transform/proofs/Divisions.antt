@@ -1,5 +1,5 @@
 -- The division of a run of coefficients by the subspace polynomial minus a constant.
-use Rattle.par2_transform.proofs.Common.{ℕ, suc, ◌+◌, ◌-◌, ◌*◌, ◌^◌, ◌<◌, ◌≤◌, ◌≡◌, sym, ap, ap₂, ◌∙◌, arith, bit_xor, refl, add_assoc, bit_at, xor_zero_r, xor_assoc, xor_comm, mul, pow, GivesElements, field_sum, bit_times_xor, power-lt, power-add, product_comm, product_assoc, product_linear_left, field_sum_same, field_sum_xor, field_sum_scaled, xor_off, vanishing, powers_in, value, from, AreShort, cases_lt, inl, inr, field_sum_none, product-zero, zero-product, OneRun, RunAddedBy, RunAdded, spread_beyond, spread_within, IsSpreadAbove, IsSpreadBelow}
+use Rattle.par2_transform.proofs.Common.{ℕ, suc, ◌+◌, ◌-◌, ◌*◌, ◌^◌, ◌<◌, ◌≤◌, ◌≡◌, sym, ap, ap₂, ◌∙◌, arith, bit_xor, refl, add_assoc, bit_at, xor_zero_r, xor_assoc, xor_comm, mul, pow, GivesElements, field_sum, bit_times_xor, power-lt, power-add, product_comm, product_assoc, product_linear_left, field_sum_same, field_sum_xor, field_sum_scaled, xor_off, vanishing, powers_in, value, from, AreZeroFrom, cases_lt, inl, inr, field_sum_none, product-zero, zero-product, OneRun, RunAddedBy, RunAdded, spread_beyond, spread_within, IsSpreadAbove, IsSpreadBelow}
 use Rattle.par2_transform.specs.Combinations.{IsHalved}
 use Rattle.par2_transform.proofs.Subspaces.{leading_power, lower_powers}
 use Rattle.par2_transform.proofs.Sums.{field_sum_join, field_sum_linear, field_sum_bit_set, field_sum_bit_unset, bit_product}
@@ -81,7 +81,7 @@ above_set i start n f g h low set so_far added = record {
     terms x j = spread_beyond i (from (2 ^ i) (from start f)) x j
 
     -- zeros are added to zeros
-    spread_short : (m : ℕ) → AreShort m (suc i) (from start g) → 2 ^ i ≤ m → AreShort m (suc i) (from start h)
+    spread_short : (m : ℕ) → AreZeroFrom m (suc i) (from start g) → 2 ^ i ≤ m → AreZeroFrom m (suc i) (from start h)
     spread_short m none most k high low =
         let e : ℕ = k - 2 ^ i in
         let at : start + 2 ^ i + e ≡ start + k = omega (arith, most, high) in
@@ -182,7 +182,7 @@ short_runs n i start f few = record {
   others = same_outside start (start + 2 ^ suc i) f;
   run = λ short.
       let double : 2 ^ suc i ≡ 2 ^ i + 2 ^ i = double_power i in
-      let none : AreShort 0 i (from (2 ^ i) (from start f)) = λ m high low. short (2 ^ i + m) (omega (arith, few)) (omega (arith, low, double)) in
+      let none : AreZeroFrom 0 i (from (2 ^ i) (from start f)) = λ m high low. short (2 ^ i + m) (omega (arith, few)) (omega (arith, low, double)) in
       let zeros : (k x m : ℕ) → m < 2 ^ i → mul (from (2 ^ i) (from start f) m) (pow x k) ≡ 0 = λ k x m low. ap (λ v. mul v (pow x k)) (none m (omega arith) low) ∙ zero-product (pow x k) in
       record {
         divided = λ x hx.

@@ -2,7 +2,7 @@
 -- polynomial basis and its application to Reed-Solomon erasure codes", 2014).
 use Rattle.std.specs.Prelude.{ℕ, zero, suc, ◌≡◌, ◌<◌, ◌-◌, ◌^◌, bit_xor}
 use Rattle.par2_spec.specs.Field.{mul}
-use Rattle.par2_transform.specs.Evaluations.{value, from, AreShort}
+use Rattle.par2_transform.specs.Evaluations.{value, from, AreZeroFrom}
 use Rattle.par2_transform.specs.Subspaces.{vanishing}
 
 -- the value at x of the combination with these 2 ^ i coefficients: number m is the coefficient of the product of the
@@ -23,12 +23,12 @@ pub record IsSplit (i c : ℕ) (whole split : ℕ → ℕ) : Type 0 where
 pub record Halves (n i : ℕ) (whole halves : ℕ → ℕ) : Type 0 where
   pub divided : (x : ℕ) → x < 2 ^ 16 → value (2 ^ suc i) whole x
       ≡ bit_xor (value (2 ^ i) halves x) (mul (vanishing i x) (value (2 ^ i) (from (2 ^ i) halves) x))
-  pub remainder : AreShort n i halves
-  pub quotient : AreShort (n - 2 ^ i) i (from (2 ^ i) halves)
+  pub remainder : AreZeroFrom n i halves
+  pub quotient : AreZeroFrom (n - 2 ^ i) i (from (2 ^ i) halves)
 
 abbrev pub IsHalved : ℕ → ℕ → (ℕ → ℕ) → (ℕ → ℕ) → Type 0
-IsHalved n i whole halves = AreShort n (suc i) whole → Halves n i whole halves
+IsHalved n i whole halves = AreZeroFrom n (suc i) whole → Halves n i whole halves
 
 -- the combination is the polynomial with these 2 ^ i coefficients, if those from number n on are 0
 abbrev pub IsCombination : ℕ → ℕ → (ℕ → ℕ) → (ℕ → ℕ) → Type 0
-IsCombination n i coefficients combination = AreShort n i coefficients → (x : ℕ) → x < 2 ^ 16 → combined i combination x ≡ value (2 ^ i) coefficients x
+IsCombination n i coefficients combination = AreZeroFrom n i coefficients → (x : ℕ) → x < 2 ^ 16 → combined i combination x ≡ value (2 ^ i) coefficients x

@@ -6,7 +6,7 @@ use Rattle.par2_spec.specs.Sums.{field_sum, GivesElements}
 use Rattle.par2_transform.specs.Adding.{within}
 use Rattle.par2_transform.specs.Subspaces.{powers_in}
 use Rattle.par2_transform.specs.PowerSums.{sum_ahead}
-use Rattle.par2_transform.specs.Evaluations.{value, from, AreShort}
+use Rattle.par2_transform.specs.Evaluations.{value, from, AreZeroFrom}
 
 -- another value is added at one place
 pub record IsOneAdded (to other : ℕ) (old new : ℕ → ℕ) : Type 0 where
@@ -75,7 +75,7 @@ spread_within i coefficients x j = field_sum (2 ^ i - 2 ^ j) (λ d. mul (coeffic
 pub record IsSpreadAbove (i start n : ℕ) (old new : ℕ → ℕ) : Type 0 where
   pub others : SameValuesOutside (start + 2 ^ i) (start + 2 ^ suc i) old new
   pub kept : (e : ℕ) → 2 ^ i ≤ 2 * e → from start new (2 ^ i + e) ≡ from start old (2 ^ i + e)
-  pub short : (m : ℕ) → 2 ^ i ≤ m → AreShort m (suc i) (from start old) → AreShort m (suc i) (from start new)
+  pub short : (m : ℕ) → 2 ^ i ≤ m → AreZeroFrom m (suc i) (from start old) → AreZeroFrom m (suc i) (from start new)
   pub fit : GivesElements old → GivesElements new
   pub values : (x : ℕ) → value (2 ^ suc i) (from start new) x
       ≡ bit_xor (value (2 ^ suc i) (from start old) x) (field_sum n (λ j. bit_at (powers_in i) j * spread_beyond i (from (2 ^ i) (from start old)) x j))

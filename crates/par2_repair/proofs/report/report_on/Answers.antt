@@ -1,4 +1,4 @@
-use Rattle.par2_repair.proofs.Common.{◌≡◌, ◌∙◌, ◌<◌, ◌≤◌, ◌+◌, List, ℕ, length, map, sym, ap, subst, arith, rules, AllByRecursion, contains, Pair, all_at, all_pairs, pair_cmp, rank, survivors, Report, TargetReport, target_report_of, lost_from, said_of}
+use Rattle.par2_repair.proofs.Common.{◌≡◌, ◌∙◌, ◌<◌, ◌≤◌, ◌+◌, List, ℕ, length, map, sym, ap, subst, arith, rules, AllByRecursion, contains, Pair, all_at, all_pairs, pair_cmp, rank, survivors, Report, TargetReport, target_report_of, numbers_of_lost, said_of}
 use Rattle.par2_repair.proofs.ReportValues.{lost_below}
 use Rattle.par2_repair.proofs.report.report_on.Goals as goal
 
@@ -23,6 +23,6 @@ returns c =
     let is_lost = contains pair_cmp c.args.lost.now in
     let targets : map target_report_of c.in_ok-targets.targets.items ≡ map (said_of folder c.args.matches.now is_lost) set.targets =
     c.in_ok-targets.ensures ∙ ap (map (said_of folder c.args.matches.now is_lost)) c.targets.ensures.value in
-    let lost : c.in_ok-lost.lost.items ≡ lost_from 0 is_lost (all_pairs set) = c.in_ok-lost.ensures ∙ ap (lost_from 0 is_lost) (c.deref.ensures.value ∙ c.in_ok-pairs.ensures) in
+    let lost : c.in_ok-lost.lost.items ≡ numbers_of_lost 0 is_lost (all_pairs set) = c.in_ok-lost.ensures ∙ ap (numbers_of_lost 0 is_lost) (c.deref.ensures.value ∙ c.in_ok-pairs.ensures) in
     let count : c.len.result ≡ length c.in_ok-lost.lost.items = search rules in
     report_so _ _ _ _ _ _ _ _ c.id.ensures targets (count ∙ ap length lost) (c.in_ok-rank.ensures ∙ ap (λ ns. rank ns (survivors set)) (c.deref-2.ensures.value ∙ lost))
