@@ -225,7 +225,8 @@ impl<'a> Windows<'a> {
         ensures blocks { AreBlocks (cut_of self.now.plan) self.now.plan.columns
             self.now.first self.now.plan.block blocks.new }
         // The recovery slices are added in these columns, and nothing else changes.
-        ensures added { AddsIn columns.now (λ t p. recovered self.now.slices (self.now.first + t) p)
+        ensures added { AddsIn columns.now
+            (λ t p. recovered self.now.slices (self.now.first + t) p)
             (lists_of buffers.old) (lists_of buffers.new) }
     {
         for r in 0..self.plan.classes {

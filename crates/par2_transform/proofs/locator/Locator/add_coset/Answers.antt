@@ -1,4 +1,4 @@
-use Rattle.par2_transform.proofs.Common.{◌+◌, ◌-◌, ◌*◌, ◌^◌, ◌<◌, ◌≤◌, ◌≡◌, ◌∙◌, sym, subst, arith, rules, length, get_or, mul, lists_of, byte_lists, words_at, column, quotient_sum}
+use Rattle.par2_transform.proofs.Common.{◌-◌, ◌*◌, ◌^◌, ◌<◌, ◌≡◌, ◌∙◌, sym, arith, rules, length, get_or, mul, lists_of, byte_lists, words_at, column, quotient_sum}
 use Rattle.par2_transform.proofs.AddingLaws.{still_within}
 use Rattle.par2_transform.proofs.LocatorLaws.{none_added_yet, next_point, all_added, coset_part, given_is}
 use Rattle.par2_transform.proofs.locator.Locator.add_coset.Goals as goal

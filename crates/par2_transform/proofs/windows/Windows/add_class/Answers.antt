@@ -1,4 +1,4 @@
-use Rattle.par2_transform.proofs.Common.{arith, ◌+◌, ◌*◌, ◌^◌, ◌<◌, ◌≤◌, sym, subst, length, lists_of, within, AddsAt, class_sum_at, words_at, cut_of}
+use Rattle.par2_transform.proofs.Common.{arith, ◌+◌, ◌*◌, ◌^◌, ◌<◌, ◌≤◌, sym, subst, lists_of, within, AddsAt, class_sum_at, words_at, cut_of}
 use Rattle.par2_transform.proofs.BlockLaws.{kept_block}
 use Rattle.par2_transform.proofs.WindowLaws.{blocks_have_shape, shape_kept}
 use Rattle.par2_transform.proofs.ClassLaws.{class_added, nothing_added}
