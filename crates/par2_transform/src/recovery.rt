@@ -4,7 +4,7 @@
 ghost use Rattle.std.specs.Prelude.{◌+◌, ◌*◌, ◌^◌, ◌≤◌, length, IfOk};
 ghost use Rattle.par2_spec.specs.Sums.{lists_of};
 ghost use Rattle.par2_transform.specs.Adding.{AddsAt, AddsToEach, AreWholeBuffers, HaveWords, LieWithin};
-ghost use Rattle.par2_transform.specs.Blocks.{AreBlocks};
+ghost use Rattle.par2_transform.specs.Blocks.{CoverOutputs};
 ghost use Rattle.par2_transform.specs.Columns.{byte_lists, recovered};
 ghost use Rattle.par2_transform.specs.Plans.{cut_of};
 
@@ -26,10 +26,8 @@ fn blocks_of(
     count: usize,
 ) -> Result<Vec<Block>, AllocError>
     requires { first + count ≤ 2 ^ 32 }
-    ensures are { IfOk result (λ blocks.
-        AreBlocks (cut_of plan.now) plan.now.columns first plan.now.block blocks.items) }
-    ensures covered { IfOk result (λ blocks. count ≤ length blocks.items * plan.now.block) }
-    ensures few { IfOk result (λ blocks. first + length blocks.items * plan.now.block ≤ 2 ^ 34) }
+    ensures { IfOk result (λ blocks.
+        CoverOutputs (cut_of plan.now) plan.now.columns first plan.now.block count blocks.items) }
 {
     let mut blocks = Vec::new(alloc);
     for j in 0..count.div_ceil(plan.block) {
