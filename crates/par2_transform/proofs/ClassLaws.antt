@@ -1,5 +1,5 @@
 -- From blocks of outputs to the part of a class, and from classes to recovery slices.
-use Rattle.par2_transform.proofs.Common.{inl, inr, ℕ, suc, ◌+◌, ◌-◌, ◌*◌, ◌/◌, ◌%◌, ◌^◌, ◌<◌, ◌≤◌, ◌≡◌, ◌≢◌, refl, sym, ap, ◌∙◌, arith, List, length, [], cases_lt, div-mul-le_self, mul-le-mul_right, mod-lt, lt_of_le-ne, div-add-mod', if◌then◌else◌, not, ◌==◌, ◌&&◌, mul, pow, is_coprime, product-zero, get_or_past, word, list_at, field_sum, word-lt, field_sum_same, field_sum_one, field_sum_none, within, AddsAt, Outputs, IsBlock, IsGathered, EachBlock, AreBlocks, HasSize, outputs_at, block_part, from_gathered, class_sum_at, weight_at, chirp_inverse, coprimes_below, AreWordsOfFirst, word_at_power, words_at, AreByteLists, recovered, Grid, column, point, Cut, Reaches, gathered, Place}
+use Rattle.par2_transform.proofs.Common.{inl, inr, ℕ, suc, ◌+◌, ◌-◌, ◌*◌, ◌/◌, ◌%◌, ◌^◌, ◌<◌, ◌≤◌, ◌≡◌, ◌≢◌, refl, sym, ap, ◌∙◌, arith, List, length, [], cases_lt, div-mul-le_self, mul-le-mul_right, mod-lt, lt_of_le-ne, div-add-mod', if◌then◌else◌, not, ◌==◌, ◌&&◌, mul, pow, is_coprime, product-zero, get_or_past, word, list_at, field_sum, word-lt, field_sum_same, field_sum_one, field_sum_none, within, AddsAt, Outputs, IsBlock, IsGathered, EachBlock, AreBlocks, CoverOutputs, HasSize, outputs_at, block_part, from_gathered, class_sum_at, weight_at, chirp_inverse, coprimes_below, AreWordsOfFirst, word_at_power, words_at, AreByteLists, recovered, Grid, column, point, Cut, Reaches, gathered, Place}
 use Rattle.std.specs.Prelude.{false}
 use Rattle.par2_transform.proofs.AddingLaws.{adds_none, adds_next, adds_same, within-in, within-below, within-above, within_same}
 use Rattle.par2_transform.proofs.Transforms.{class_by_windows, sum_by_classes}
@@ -94,38 +94,35 @@ within_sum n from to p f = elim (cases_lt p from) [
 ]
 
 -- the first n classes have been added, in the columns from `from` up to `to`
-pub record ClassesAdded (places : List Place) (len : ℕ) (cut : Cut) (slices : List (List ℕ)) (words first size from to n : ℕ) (rows : Grid) (old blocks : List Outputs) (was buffers : List (List ℕ)) : Type 0 where
+pub record ClassesAdded (places : List Place) (len : ℕ) (cut : Cut) (slices : List (List ℕ)) (words first size from to n : ℕ) (rows : Grid) (blocks : List Outputs) (was buffers : List (List ℕ)) : Type 0 where
   pub kept : HasSize cut.levels words rows
-  pub count : length blocks ≡ length old
-  pub are : AreBlocks cut words first size blocks
+  pub cover : CoverOutputs cut words first size (length places) blocks
   pub added : AddsAt places len (λ t p. field_sum n (λ r. within from to p (class_sum_at cut (words_at slices p) (first + t) r))) was buffers
 
-pub no_class : (places : List Place) (len : ℕ) (cut : Cut) (slices : List (List ℕ)) (words first size from to : ℕ) (rows : Grid) (blocks : List Outputs) (buffers : List (List ℕ)) → HasSize cut.levels words rows → AreBlocks cut words first size blocks
-    → ClassesAdded places len cut slices words first size from to 0 rows blocks blocks buffers buffers
+pub no_class : (places : List Place) (len : ℕ) (cut : Cut) (slices : List (List ℕ)) (words first size from to : ℕ) (rows : Grid) (blocks : List Outputs) (buffers : List (List ℕ)) → HasSize cut.levels words rows → CoverOutputs cut words first size (length places) blocks
+    → ClassesAdded places len cut slices words first size from to 0 rows blocks buffers buffers
 unfolding field_sum
-no_class places len cut slices words first size from to rows blocks buffers size_is are = record {
-  kept = size_is;
-  count = refl;
-  are = are;
+no_class places len cut slices words first size from to rows blocks buffers kept cover = record {
+  kept = kept;
+  cover = cover;
   added = adds_none places len (λ t p. field_sum 0 (λ r. within from to p (class_sum_at cut (words_at slices p) (first + t) r))) buffers (λ t p. refl);
 }
 
-pub next_class : (places : List Place) (len : ℕ) (cut : Cut) (slices : List (List ℕ)) (words first size from to n : ℕ) (mid rows : Grid) (old before blocks : List Outputs) (was half buffers : List (List ℕ))
-    → ClassesAdded places len cut slices words first size from to n mid old before was half → HasSize cut.levels words rows → length blocks ≡ length before
-    → AreBlocks cut words first size blocks → AddsAt places len (λ t p. within from to p (class_sum_at cut (words_at slices p) (first + t) n)) half buffers
-    → ClassesAdded places len cut slices words first size from to (n + 1) rows old blocks was buffers
-next_class places len cut slices words first size from to n mid rows old before blocks was half buffers so_far size_is count are added = record {
-  kept = size_is;
-  count = count ∙ so_far.count;
-  are = are;
+pub next_class : (places : List Place) (len : ℕ) (cut : Cut) (slices : List (List ℕ)) (words first size from to n : ℕ) (mid rows : Grid) (before blocks : List Outputs) (was half buffers : List (List ℕ))
+    → ClassesAdded places len cut slices words first size from to n mid before was half → HasSize cut.levels words rows
+    → CoverOutputs cut words first size (length places) blocks → AddsAt places len (λ t p. within from to p (class_sum_at cut (words_at slices p) (first + t) n)) half buffers
+    → ClassesAdded places len cut slices words first size from to (n + 1) rows blocks was buffers
+next_class places len cut slices words first size from to n mid rows before blocks was half buffers so_far kept cover added = record {
+  kept = kept;
+  cover = cover;
   added = adds_next places len n (λ r t p. within from to p (class_sum_at cut (words_at slices p) (first + t) r)) was half buffers so_far.added added;
 }
 
 -- all classes together give the recovery slices
-pub all_classes : (places : List Place) (len : ℕ) (cut : Cut) (slices : List (List ℕ)) (words first size from to : ℕ) (rows : Grid) (old blocks : List Outputs) (was buffers : List (List ℕ))
+pub all_classes : (places : List Place) (len : ℕ) (cut : Cut) (slices : List (List ℕ)) (words first size from to : ℕ) (rows : Grid) (blocks : List Outputs) (was buffers : List (List ℕ))
     → length slices ≤ 32768 → AreByteLists slices → Reaches (length slices) cut
-    → ClassesAdded places len cut slices words first size from to cut.classes rows old blocks was buffers → AddsAt places len (λ t p. within from to p (recovered slices (first + t) p)) was buffers
-all_classes places len cut slices words first size from to rows old blocks was buffers few bytes reaches all =
+    → ClassesAdded places len cut slices words first size from to cut.classes rows blocks was buffers → AddsAt places len (λ t p. within from to p (recovered slices (first + t) p)) was buffers
+all_classes places len cut slices words first size from to rows blocks was buffers few bytes reaches all =
     adds_same places len (λ t p. field_sum cut.classes (λ r. within from to p (class_sum_at cut (words_at slices p) (first + t) r))) (λ t p. within from to p (recovered slices (first + t) p)) was buffers all.added
     (λ t p low fits.
     within_sum cut.classes from to p (class_sum_at cut (words_at slices p) (first + t))

@@ -28,7 +28,7 @@ pub use Rattle.par2_spec.specs.Sums.{GivesElements, OneChanged, list_at, lists_o
 unfoldable pub use Rattle.par2_spec.specs.Sums.{field_sum}
 pub use Rattle.par2_gf16.specs.Products.{AddsWords}
 pub use Rattle.par2_transform.specs.Adding.{AddsAt, AddsBoth, AddsTo, AddsToEach, AddsToPart, AreApart, AreWholeBuffers, HasByte, HaveWords, LieWithin, output_word, place_at, within}
-pub use Rattle.par2_transform.specs.Blocks.{AreBlocks, AreCoefficients, AreWeightRows, AreWindowValues, BlocksBecome, EachBlock, Gathers, GathersWindow, HasShape, HaveShape, IsBlock, IsCleared, IsGathered, Keeps, OneBecomes, Outputs, RowsGathered, Takes, outputs_at, block_part, class_sum_at, from_gathered, weight_at}
+pub use Rattle.par2_transform.specs.Blocks.{AreBlocks, AreCoefficients, AreWeightRows, AreWindowValues, BlocksBecome, CoverOutputs, EachBlock, Gathers, GathersWindow, HasShape, HaveShape, IsBlock, IsCleared, IsGathered, Keeps, OneBecomes, Outputs, RowsGathered, Takes, outputs_at, block_part, class_sum_at, from_gathered, weight_at}
 pub use Rattle.par2_transform.specs.Chirps.{AreWordsOfFirst, AreWeights}
 unfoldable pub use Rattle.par2_transform.specs.Chirps.{chirp, chirp_inverse, coprimes_below, triangle, word_at_power}
 pub use Rattle.par2_transform.specs.Columns.{AreByteLists, AreNumbers, recovered, byte_lists, words_at}

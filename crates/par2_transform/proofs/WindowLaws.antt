@@ -1,5 +1,5 @@
 -- From coefficients in rows to the sums that the windows of a class gather.
-use Rattle.par2_transform.proofs.Common.{inl, inr, ℕ, suc, ◌+◌, ◌-◌, ◌*◌, ◌^◌, ◌<◌, ◌≤◌, ◌≡◌, ◌≢◌, refl, sym, ap, ap₂, subst, ◌∙◌, arith, List, length, bit_xor, cases_lt, cases_eq, xor_zero_l, xor_zero_r, mul, pow, zero-product, field_sum_same, field_sum_none, Outputs, Keeps, IsCleared, Gathers, GathersWindow, IsGathered, EachBlock, outputs_at, weight_at, AreCoefficients, AreWindowValues, HaveShape, AreBlocks, words_at, value, AreValues, Grid, column, IsAdded, EachColumn, point, Cut, coefficient_of, window_value, field_sum}
+use Rattle.par2_transform.proofs.Common.{inl, inr, ℕ, suc, ◌+◌, ◌-◌, ◌*◌, ◌^◌, ◌<◌, ◌≤◌, ◌≡◌, ◌≢◌, sym, ap, ap₂, subst, ◌∙◌, arith, List, length, bit_xor, cases_lt, cases_eq, xor_zero_l, xor_zero_r, mul, pow, zero-product, field_sum_same, field_sum_none, Outputs, Keeps, IsCleared, Gathers, GathersWindow, IsGathered, EachBlock, outputs_at, weight_at, AreCoefficients, AreWindowValues, HaveShape, AreBlocks, words_at, value, AreValues, Grid, column, IsAdded, EachColumn, point, Cut, coefficient_of, window_value, field_sum}
 use Rattle.par2_transform.proofs.Sums.{field_sum_join}
 
 -- ---- coefficients

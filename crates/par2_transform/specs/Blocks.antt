@@ -112,6 +112,12 @@ HaveShape cut columns blocks = (j : ℕ) → j < length blocks → HasShape cut 
 abbrev pub AreBlocks : Cut → ℕ → ℕ → ℕ → List Outputs → Type 0
 AreBlocks cut columns first size blocks = (j : ℕ) → j < length blocks → IsBlock cut columns (first + j * size) (outputs_at blocks j)
 
+-- and these blocks cover n outputs
+pub record CoverOutputs (cut : Cut) (columns first size n : ℕ) (blocks : List Outputs) : Type 0 where
+  pub each : AreBlocks cut columns first size blocks
+  pub covered : n ≤ length blocks * size
+  pub few : first + length blocks * size ≤ 2 ^ 34
+
 -- the part of class r in a word of the recovery slice of exponent e + t, from the gathered sums: power sum t of these,
 -- times the factor of the exponent
 abbrev pub from_gathered : Cut → (ℕ → ℕ) → ℕ → ℕ → ℕ → ℕ

@@ -147,7 +147,7 @@ impl Block {
         gather_rows(gf, weights_at(&self.weights, a), values, &mut self.sums);
     }
 
-    /// Turns the sums gathered for a class into outputs, and adds these to the outputs from `first` on, in these columns.
+    /// Turns the sums gathered for a class into outputs, and adds them to the outputs from `first` on, in these columns.
     /// `first` is the index, among all outputs, of the block's first one. The gathered sums are overwritten.
     pub(crate) fn add_to(
         &mut self,
@@ -184,7 +184,8 @@ impl Block {
     }
 }
 
-// The factor by which the power sum of class r becomes its part in the output of exponent e: 2 ^ (e r) divided by chirp e.
+// The factor by which the power sum of class r becomes its part in the output of exponent e: 2 ^ (e r) divided by chirp
+// e.
 fn factor_of(gf: &Gf, class: &Class, e: u64) -> u16
     requires { e ≤ 2 ^ 40 }
     ensures { result ≡ mul (pow 2 (e * class.now.number))
@@ -232,7 +233,7 @@ pub(crate) fn gather_all(gf: &Gf, a: usize, values: &Rows, blocks: &mut [Block])
     }
 }
 
-// Turns the sums that block j gathered for a class into outputs, and adds these in these columns: the step of `add_all`.
+// Turns the sums that block j gathered for a class into outputs, and adds them in these columns: the step of `add_all`.
 fn add_one(
     gf: &Gf,
     class: &Class,
@@ -259,7 +260,7 @@ fn add_one(
     blocks[j].add_to(gf, class, columns, buffers, j * class.plan.block);
 }
 
-/// Turns the sums that all blocks gathered for a class into outputs, and adds these in these columns.
+/// Turns the sums that all blocks gathered for a class into outputs, and adds them in these columns.
 pub(crate) fn add_all(
     gf: &Gf,
     class: &Class,

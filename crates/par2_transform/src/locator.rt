@@ -100,17 +100,17 @@ impl<'a> Locator<'a> {
         to_combinations(&mut scratch.rows, self.levels, count);
     }
 
-    // Replaces the rows by the values of the combinations at the points in the coset with this number.
-    fn evaluate(&self, coset: usize, combinations: &Rows, rows: &mut Rows)
+    // Replaces the sums by the values of the combinations in the rows, at the points in the coset with this number.
+    fn evaluate(&self, coset: usize, scratch: &mut Scratch)
         requires coset { coset < 2 ^ (16 - self.now.levels) }
-        requires rows { rows.old.levels ≡ self.now.numerators.levels }
-        requires combinations { combinations.now.levels ≡ self.now.numerators.levels }
-        requires words { combinations.now.words ≡ rows.old.words }
-        ensures { AreValuesOf self.now.next.items self.now.levels coset combinations.now
-            rows.old rows.new }
+        requires levels { scratch.old.rows.levels ≡ self.now.numerators.levels }
+        ensures kept { scratch.new.rows ≡ scratch.old.rows }
+        ensures values { AreValuesOf self.now.next.items self.now.levels coset
+            scratch.old.rows scratch.old.sums scratch.new.sums }
     {
-        rows.copy_from(combinations, 1 << self.levels);
-        values_in_coset(self.gf, rows, Some(&self.next), self.levels, coset as u16);
+        scratch.sums.copy_from(&scratch.rows, 1 << self.levels);
+        let sums = &mut scratch.sums;
+        values_in_coset(self.gf, sums, Some(&self.next), self.levels, coset as u16);
     }
 
     // Adds the value at point j, times its factor, to output j in these columns, if the point is in the coset whose
@@ -185,7 +185,7 @@ impl<'a> Locator<'a> {
             (words_at (byte_lists sources.now) p) t)))
             (lists_of buffers.old) (lists_of buffers.new) }
     {
-        self.evaluate(coset, &scratch.rows, &mut scratch.sums);
+        self.evaluate(coset, scratch);
         for j in 0..columns.outputs.len() {
             self.add_point(coset, j, columns, &scratch.sums, buffers);
         }

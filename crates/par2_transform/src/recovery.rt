@@ -1,10 +1,10 @@
 //! Recovery slices, added to outputs inside buffers or to whole buffers. The outputs are computed in groups as large as
 //! memory allows, each by one transform (`add_group`) over all columns, some at a time (`add_words`).
 
-ghost use Rattle.std.specs.Prelude.{◌+◌, ◌*◌, ◌^◌, ◌<◌, ◌≤◌, length, IfOk};
+ghost use Rattle.std.specs.Prelude.{◌+◌, ◌*◌, ◌^◌, ◌≤◌, length, IfOk};
 ghost use Rattle.par2_spec.specs.Sums.{lists_of};
-ghost use Rattle.par2_transform.specs.Adding.{within, AddsAt, AddsToEach, AreWholeBuffers, HaveWords, LieWithin};
-ghost use Rattle.par2_transform.specs.Blocks.{AreBlocks};
+ghost use Rattle.par2_transform.specs.Adding.{AddsAt, AddsToEach, AreWholeBuffers, HaveWords, LieWithin};
+ghost use Rattle.par2_transform.specs.Blocks.{CoverOutputs};
 ghost use Rattle.par2_transform.specs.Columns.{byte_lists, recovered};
 ghost use Rattle.par2_transform.specs.Plans.{cut_of};
 
@@ -26,10 +26,8 @@ fn blocks_of(
     count: usize,
 ) -> Result<Vec<Block>, AllocError>
     requires { first + count ≤ 2 ^ 32 }
-    ensures are { IfOk result (λ blocks.
-        AreBlocks (cut_of plan.now) plan.now.columns first plan.now.block blocks.items) }
-    ensures covered { IfOk result (λ blocks. count ≤ length blocks.items * plan.now.block) }
-    ensures few { IfOk result (λ blocks. first + length blocks.items * plan.now.block ≤ 2 ^ 34) }
+    ensures { IfOk result (λ blocks.
+        CoverOutputs (cut_of plan.now) plan.now.columns first plan.now.block count blocks.items) }
 {
     let mut blocks = Vec::new(alloc);
     for j in 0..count.div_ceil(plan.block) {
@@ -64,7 +62,7 @@ impl<'a> Windows<'a> {
     }
 }
 
-// Adds the recovery slices to outputs `from` up to `to` in one transform: to output t that of exponent `first + t`.
+// Adds to output t the recovery slice of exponent `first + t`, for all outputs in one transform.
 fn add_group(
     alloc: Global,
     gf: &Gf,
@@ -72,22 +70,17 @@ fn add_group(
     first: u32,
     buffers: &mut [Vec<u8>],
     outputs: &Places,
-    from: usize,
-    to: usize,
     room: usize,
 ) -> Result<(), AllocError>
     requires slices { length slices.now ≤ 32768 }
     requires exponents { first + length outputs.now.places.now ≤ 2 ^ 32 }
     requires room { LieWithin outputs.now.words outputs.now.places.now (lists_of buffers.old) }
-    requires group { (from < to) × (to ≤ length outputs.now.places.now) }
     ensures { IfOk result (λ _. AddsAt outputs.now.places.now outputs.now.words
-        (λ t p. within from to t (recovered (byte_lists slices.now) (first + t) p))
+        (λ t p. recovered (byte_lists slices.now) (first + t) p)
         (lists_of buffers.old) (lists_of buffers.new)) }
 {
-    let group = outputs.part(from, to);
-    let first = first + from as u32;
-    let windows = Windows::new(alloc, gf, slices, first, &group, room)?;
-    windows.add_words(alloc, buffers, &group)
+    let windows = Windows::new(alloc, gf, slices, first, outputs, room)?;
+    windows.add_words(alloc, buffers, outputs)
 }
 
 /// Adds to output t the recovery slice of exponent `first + t` over these slices. Shorter slices are padded with zeros,
@@ -114,7 +107,9 @@ pub fn add_recovery_slices_at(
     for k in 0..count.div_ceil(at_once) {
         let from = k * at_once;
         let to = from + at_once.min(count - from);
-        add_group(alloc, gf, slices, first, buffers, outputs, from, to, room)?;
+        let group = outputs.part(from, to);
+        let first = first + from as u32;
+        add_group(alloc, gf, slices, first, buffers, &group, room)?;
     }
     Ok(())
 }

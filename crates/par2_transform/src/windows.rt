@@ -5,7 +5,7 @@
 ghost use Rattle.std.specs.Prelude.{◌≡◌, ◌+◌, ◌-◌, ◌*◌, ◌^◌, ◌<◌, ◌≤◌, length, IfOk};
 ghost use Rattle.par2_spec.specs.Sums.{lists_of};
 ghost use Rattle.par2_transform.specs.Adding.{LieWithin};
-ghost use Rattle.par2_transform.specs.Blocks.{AreBlocks, AreCoefficients, EachBlock, GathersWindow, HaveShape, IsGathered, class_sum_at};
+ghost use Rattle.par2_transform.specs.Blocks.{AreCoefficients, CoverOutputs, EachBlock, GathersWindow, HaveShape, IsGathered, class_sum_at};
 ghost use Rattle.par2_transform.specs.Chirps.{chirp_inverse, AreInverses};
 ghost use Rattle.par2_transform.specs.Columns.{byte_lists, words_at, recovered, AreByteLists};
 ghost use Rattle.par2_transform.specs.Grids.{HasSize, IsAdded};
@@ -165,24 +165,19 @@ impl<'a> Windows<'a> {
         blocks: &mut [Block],
         buffers: &mut [Vec<u8>],
     )
-        // The class is the plan's, and the rows and the blocks have its shape.
+        // The class is the plan's, the rows and the blocks have its shape, and the blocks cover the outputs.
         requires class { r < self.now.plan.classes }
         requires rows { HasSize self.now.plan.levels self.now.plan.columns rows.old }
-        requires blocks { AreBlocks (cut_of self.now.plan) self.now.plan.columns self.now.first
-            self.now.plan.block blocks.old }
-        // The blocks cover the outputs.
-        requires covered { length columns.now.outputs.places.now
-            ≤ length blocks.old * self.now.plan.block }
-        requires few { self.now.first + length blocks.old * self.now.plan.block ≤ 2 ^ 34 }
+        requires blocks { CoverOutputs (cut_of self.now.plan) self.now.plan.columns self.now.first
+            self.now.plan.block (length columns.now.outputs.places.now) blocks.old }
         // One block of columns at most, and the outputs lie inside the buffers.
         requires columns { columns.now.to ≤ columns.now.from + self.now.plan.columns }
         requires room { LieWithin columns.now.outputs.words columns.now.outputs.places.now
             (lists_of buffers.old) }
-        // The rows and the blocks keep their shape, so that the next class can use them.
+        // The next class can use the rows and the blocks.
         ensures rows { HasSize self.now.plan.levels self.now.plan.columns rows.new }
-        ensures count { length blocks.new ≡ length blocks.old }
-        ensures blocks { AreBlocks (cut_of self.now.plan) self.now.plan.columns
-            self.now.first self.now.plan.block blocks.new }
+        ensures blocks { CoverOutputs (cut_of self.now.plan) self.now.plan.columns self.now.first
+            self.now.plan.block (length columns.now.outputs.places.now) blocks.new }
         // The part of class r is added to these columns and to nothing else.
         ensures added { AddsIn columns.now (λ t p. class_sum_at (cut_of self.now.plan)
             (words_at self.now.slices p) (self.now.first + t) r)
@@ -207,25 +202,21 @@ impl<'a> Windows<'a> {
         blocks: &mut [Block],
         buffers: &mut [Vec<u8>],
     )
-        // The rows and the blocks have the shape of the plan.
+        // The rows and the blocks have the shape of the plan, and the blocks cover the outputs.
         requires rows { HasSize self.now.plan.levels self.now.plan.columns rows.old }
-        requires blocks { AreBlocks (cut_of self.now.plan) self.now.plan.columns self.now.first
-            self.now.plan.block blocks.old }
-        // The blocks cover the outputs.
-        requires covered { length columns.now.outputs.places.now
-            ≤ length blocks.old * self.now.plan.block }
-        requires few { self.now.first + length blocks.old * self.now.plan.block ≤ 2 ^ 34 }
+        requires blocks { CoverOutputs (cut_of self.now.plan) self.now.plan.columns self.now.first
+            self.now.plan.block (length columns.now.outputs.places.now) blocks.old }
         // One block of columns at most, and the outputs lie inside the buffers.
         requires columns { columns.now.to ≤ columns.now.from + self.now.plan.columns }
         requires room { LieWithin columns.now.outputs.words columns.now.outputs.places.now
             (lists_of buffers.old) }
-        // The rows and the blocks keep their shape, so that the next columns can use them.
+        // The next columns can use the rows and the blocks.
         ensures rows { HasSize self.now.plan.levels self.now.plan.columns rows.new }
-        ensures count { length blocks.new ≡ length blocks.old }
-        ensures blocks { AreBlocks (cut_of self.now.plan) self.now.plan.columns
-            self.now.first self.now.plan.block blocks.new }
+        ensures blocks { CoverOutputs (cut_of self.now.plan) self.now.plan.columns self.now.first
+            self.now.plan.block (length columns.now.outputs.places.now) blocks.new }
         // The recovery slices are added in these columns, and nothing else changes.
-        ensures added { AddsIn columns.now (λ t p. recovered self.now.slices (self.now.first + t) p)
+        ensures added { AddsIn columns.now
+            (λ t p. recovered self.now.slices (self.now.first + t) p)
             (lists_of buffers.old) (lists_of buffers.new) }
     {
         for r in 0..self.plan.classes {

@@ -1,4 +1,4 @@
-use Rattle.par2_transform.proofs.Common.{◌∙◌, ◌≡◌, ◌≤◌, sym, subst, arith, length, lists_of, byte_lists, words_at, quotient_sum, Places}
+use Rattle.par2_transform.proofs.Common.{◌∙◌, ◌≡◌, sym, subst, arith, length, lists_of, byte_lists, words_at, quotient_sum, Places}
 use Rattle.par2_transform.proofs.ColumnLaws.{begins, columns_within, no_words, next_words, all_words}
 use Rattle.par2_transform.proofs.locator.Locator.add_words.Goals as goal
 

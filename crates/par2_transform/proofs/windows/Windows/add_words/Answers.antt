@@ -1,4 +1,4 @@
-use Rattle.par2_transform.proofs.Common.{rules, ◌≡◌, ◌+◌, ◌*◌, ◌^◌, ◌≤◌, ◌∙◌, refl, sym, ap, subst, arith, length, List, with_items_is, lists_of, Outputs, AreBlocks, cut_of, recovered, Places}
+use Rattle.par2_transform.proofs.Common.{rules, ◌≡◌, ◌+◌, ◌∙◌, sym, subst, arith, length, with_items_is, lists_of, CoverOutputs, cut_of, recovered, Places}
 use Rattle.par2_transform.proofs.ColumnLaws.{begins, columns_within, no_words, next_words, all_words}
 use Rattle.par2_transform.proofs.windows.Windows.add_words.Goals as goal
 
@@ -11,13 +11,10 @@ add_classes-requires c =
     let plan = self.plan in
     let l = c.loop-k in
     let is = c.columns-columns.ensures in
-    let count = ap (λ (bs : List Outputs). length bs) c.as_mut_slice.ensures.value ∙ l.invariant.count in
     record {
       rows = l.invariant.rows;
-      blocks = subst (λ (bs : List Outputs). AreBlocks (cut_of plan) plan.columns self.first plan.block bs) (sym c.as_mut_slice.ensures.value) l.invariant.are;
-      covered = subst (λ (o : Places). length o.places.now ≤ length c.as_mut_slice.result.now * plan.block) (sym is.outputs)
-          (subst (λ n. length c.args.outputs.now.places.now ≤ n * plan.block) (sym count) (subst (λ n. n ≤ length c.in_ok-blocks.blocks.items * plan.block) c.len.ensures c.in_ok-blocks.ensures.covered));
-      few = subst (λ n. self.first + n * plan.block ≤ 2 ^ 34) (sym count) c.in_ok-blocks.ensures.few;
+      blocks = subst (λ (o : Places). CoverOutputs (cut_of plan) plan.columns self.first plan.block (length o.places.now) c.as_mut_slice.result.now) (sym is.outputs)
+          (subst (CoverOutputs (cut_of plan) plan.columns self.first plan.block (length c.args.outputs.now.places.now)) (sym c.as_mut_slice.ensures.value) l.invariant.cover);
       columns = omega (arith, is.from, is.to);
       room = columns_within c.args.outputs.now c.columns-columns.result _ (lists_of c.args.buffers.now) (lists_of l.buffers) is.outputs l.invariant.added c.requires.room;
     }
@@ -27,8 +24,7 @@ loop-k-init c =
     let self = c.args.self.now in
     record {
       rows = record { levels = c.in_ok-rows.ensures.levels; words = c.in_ok-rows.ensures.words };
-      count = refl;
-      are = c.in_ok-blocks.ensures.are;
+      cover = subst (λ n. CoverOutputs (cut_of self.plan) self.plan.columns self.first self.plan.block n c.in_ok-blocks.blocks.items) c.len.ensures c.in_ok-blocks.ensures;
       added = no_words c.args.outputs.now self.plan.columns (λ t p. recovered self.slices (self.first + t) p) (lists_of c.args.buffers.now);
     }
 
@@ -45,8 +41,8 @@ loop-k-preserved c =
     let low = begins c.args.outputs.now.words plan.columns l.k c.div_ceil-k-end.result (let some = plan.some.1.1 in omega (arith, some)) c.div_ceil-k-end.ensures c.loop-k-test.true in
     record {
       rows = e.rows;
-      count = ap (λ (bs : List Outputs). length bs) after ∙ e.count ∙ ap (λ (bs : List Outputs). length bs) c.as_mut_slice.ensures.value ∙ l.invariant.count;
-      are = subst (λ (bs : List Outputs). AreBlocks (cut_of plan) plan.columns self.first plan.block bs) (sym after) e.blocks;
+      cover = subst (CoverOutputs (cut_of plan) plan.columns self.first plan.block (length c.args.outputs.now.places.now)) (sym after)
+          (subst (λ (o : Places). CoverOutputs (cut_of plan) plan.columns self.first plan.block (length o.places.now) blocks) is.outputs e.blocks);
       added = next_words c.args.outputs.now c.columns-columns.result plan.columns l.k (λ t p. recovered self.slices (self.first + t) p) (lists_of c.args.buffers.now) (lists_of l.buffers) (lists_of c.add_classes.new.buffers)
           l.invariant.added low is.outputs is.from is.to e.added;
     }
