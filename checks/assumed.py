@@ -5,16 +5,12 @@ no axiom, hole or choice is among what it rests on.
 usage: assumed.py [--check PAGE | --write PAGE]     compares the list with the page, or writes it there
 
 The libraries below the program must be built, as the gate leaves them, or they are proved first. The program is proved
-once more for the list, which takes a minute or two. The result is kept beside the toolchain, by a checksum of all its
-inputs, for later runs on this machine.
+once more for the list, which takes a few minutes.
 """
 import collections
-import hashlib
-import json
 import os
 import re
 import sys
-import tempfile
 
 import wrong_bodies
 
@@ -28,14 +24,10 @@ def checked(rt, crate):
     """Returns what a check of the crate says of the functions that it assumes."""
     if not wrong_bodies.built([(crate, [])]):
         sys.exit("a library below the program is not proved")
-    with tempfile.TemporaryDirectory() as kept:
-        rt.adopt(crate, is_alone=False)
-        if os.path.isdir(f"{crate.folder}/out/incremental"):
-            rt.linked(f"{crate.folder}/out/incremental", f"{kept}/work")
-        ran = rt.checked(crate, {}, ["--jobs", "1", "--list-axioms"], f"{kept}/work")
-    if "\nlogic=proved" not in ran.stdout:
-        sys.exit(f"{crate.name} is not proved:\n{ran.stdout[-2000:]}")
-    return ran.stdout
+    said = rt.checked(crate, {}, ["--jobs", "1", "--list-axioms"], None).stdout
+    if "\nlogic=proved" not in said:
+        sys.exit(f"{crate.name} is not proved:\n{said[-2000:]}")
+    return said
 
 
 def functions(said):
@@ -48,18 +40,10 @@ def functions(said):
 
 
 def assumed():
-    """Returns the names of the functions, as an earlier run on this machine found them or by a check."""
+    """Returns the names of the functions."""
     rt = wrong_bodies.toolchain()
     crates = rt.rtlib.crates_below(os.getcwd())
-    crate = next(it for it in crates if it.name == PROGRAM)
-    kept = rt.Kept(crates)
-    name = hashlib.sha256(repr((rt.stamp_of(crate, {}), wrong_bodies.text_of(__file__))).encode()).hexdigest()
-    if found := kept.tried(name):
-        return json.loads(found[1])
-    names = functions(checked(rt, crate))
-    if all(map(kept.is_untouched, [crate, *crate.below()])):
-        kept.keep_tried(name, rt.REFUSED, json.dumps(names))
-    return names
+    return functions(checked(rt, next(it for it in crates if it.name == PROGRAM)))
 
 
 def rows(names):
