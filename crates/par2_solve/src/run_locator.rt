@@ -17,7 +17,7 @@ use par2_transform::Locator;
 use std::alloc::Global;
 
 /// The fewest lost slices for which the locator is faster than rows.
-pub(crate) const LOCATED: usize = 600;
+pub(crate) const LOCATED: usize = 768;
 
 // The factor that scales the quotient for the constant `c` to a row of the inverse: 1 over `c ^ first` times the
 // derivative at `c`. `p` is the polynomial whose roots are the lost slices' constants, `c` among them.
