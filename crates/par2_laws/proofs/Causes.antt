@@ -1,6 +1,5 @@
 -- Consequences of each result of a repair for the three tests of its set.
-use Rattle.par2_laws.proofs.Common.{◌≡◌, ℕ, List, [], ◌∷◌, true, false, Bool, not, Option, Some, None, arith, list_all, AllByRecursion, bytes_eq, and_parts, not-true, md5, Fault, NameTooLong, NotRepairable, RepairFailed, first_fault, fault_where, is_repairable, rank, IsRepairable, Folder, ParSet, Target, known, lost, survivors, rebuilt_targets, first_cause, repairable-iff, may_refuse, repair_refusal}
-use Rattle.std.proofs.lemmas.Slice.Eq.{bytes_eq-Decides}
+use Rattle.par2_laws.proofs.Common.{◌≡◌, ℕ, List, [], ◌∷◌, true, false, Bool, not, Option, Some, None, arith, list_all, bytes_eq, md5, Fault, NameTooLong, NotRepairable, RepairFailed, first_fault, fault_where, is_repairable, rank, IsRepairable, Folder, ParSet, Target, known, lost, survivors, rebuilt_targets, repairable-iff, may_refuse, repair_refusal}
 
 -- the refusal: whether the set is repairable, an aside is too long, and the MD5s are right
 abbrev answer : (repairable long right : Bool) (missing rank : ℕ) → Option Fault
@@ -19,13 +18,6 @@ by_few repairable long right m r fault never e = cc
 abbrev pub has_digest : Target × List ℕ → Bool
 has_digest c = bytes_eq (md5 c.1) c.0.md5
 
--- each file has its MD5
-have_digests : (cs : List (Target × List ℕ)) → list_all has_digest cs ≡ true → AllByRecursion (λ c. md5 c.1 ≡ c.0.md5) cs
-have_digests [] h = tt
-have_digests (c ∷ cs) h =
-    let both = and_parts (has_digest c) (list_all has_digest cs) h in
-    ((bytes_eq-Decides (md5 c.1) c.0.md5).0 both.0, have_digests cs both.1)
-
 module _ (folder : Folder) (set : ParSet) (searched : List (List ℕ)) where
   abbrev missing : List ℕ
   missing = lost (known folder set searched)
@@ -39,14 +31,11 @@ module _ (folder : Folder) (set : ParSet) (searched : List (List ℕ)) where
   determined : (repairable ≡ true) → IsRepairable missing (survivors set)
   determined = (repairable-iff missing (survivors set)).0
 
-  pub accepted_by : repair_refusal folder set searched ≡ None → IsRepairable missing (survivors set) × AllByRecursion (λ c. md5 c.1 ≡ c.0.md5) (rebuilt_targets folder set searched)
-  accepted_by e = unfold repair_refusal in grind (arith, determined, have_digests)
+  pub accepted_by : repair_refusal folder set searched ≡ None → IsRepairable missing (survivors set)
+  accepted_by e = unfold repair_refusal in grind (arith, determined)
 
   pub failed_by : repair_refusal folder set searched ≡ Some RepairFailed → IsRepairable missing (survivors set) × (right ≡ false)
   failed_by e = unfold repair_refusal in grind (arith, determined)
-
-  pub unrepairable_by : (missing rank : ℕ) → repair_refusal folder set searched ≡ Some (NotRepairable missing rank) → repairable ≡ false
-  unrepairable_by m r e = unfold repair_refusal in grind (arith, not-true, first_cause)
 
   pub refused_by : (fault : Fault) → (fault ≡ RepairFailed → ⊥) → repair_refusal folder set searched ≡ Some fault → may_refuse fault ≡ true
   refused_by fault never e = unfold repair_refusal in by_few repairable _ right _ _ fault never e

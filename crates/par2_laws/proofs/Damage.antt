@@ -1,10 +1,13 @@
 -- The PAR2 files of a create after damage.
-use Rattle.par2_laws.proofs.Common.{◌≡◌, ℕ, ◌+◌, ◌^◌, ◌<◌, ◌≤◌, true, false, not, ◌&&◌, List, [], ◌∷◌, ◌++◌, length, map, take, Option, None, sym, ap, ◌∙◌, subst, append_assoc, length-append, arith, Bool, cond, Some, refl, inl, inr, ◌⊎◌, ◌||◌, unwrap_or, sum_by, nat_lt, ◌==◌, is_some, filter, AllByRecursion, list_any, enumerate_from, Contains, IsDistinct, bytes_eq, get-entries, nat_cmp, slice_cmp, not-false, and_parts, or_parts, eqb-true, eqb-false, ltb-false, false≢true, or_from, or_left, div_ceil_times, common_steps, length-map, sum_by-cons, Fault, BadSliceSize, BadCount, BadBase, NoInput, BadName, DuplicateInput, NoSuchFile, EmptyFile, TooManySlices, DuplicateId, NameTooLong, Exists, fault_where, fault_at, slice_count, slices, is_name, is_par_name, is_among, distinct, Folder, File, IsFolder, has, bytes_of, files, without, laid_over, id_of, volume_name, volume_numbers, volume_size, volumes_before, all_slices, in_id_order, volumes, record_of, is_slice_size, MadeFrom, target_of_file, target_names, CreateArgs, Create, files_of, outputs_of, are_counts, is_input_name, refusal, create_refusal, after, AreInputs, IsVolume, IsVolumeOrOther, IsOfOthers, set_id_of, HoldsVolumes, FitsCreate, IsDamage, written_names, FollowsCreate, all_weaker, size_positive, distinct_by_length, same_either_way, std_from_distinct, found_at_key, contained_first, contained_later, all-append, all-parts, all-flat_map, where_none, all_none, at_none, some_if, by_either, names_of_files, at_name, recursion_from_All, filter_passes, same_Some, IsPermutation-sym, IsPermutation-map, map-map, pair_of, Matches, windows, AreBytes, candidates, NoCollision, all-filter, moved-all, moved-ordered, IsTrueTo, accepted_after}
+use Rattle.par2_laws.proofs.Common.{Command, Repair, NotRepairable, may_refuse, ◌≡◌, ℕ, ◌+◌, ◌^◌, ◌<◌, ◌≤◌, true, false, not, ◌&&◌, List, [], ◌∷◌, ◌++◌, length, map, take, Option, None, sym, ap, ◌∙◌, subst, append_assoc, length-append, arith, Bool, Some, refl, inl, inr, ◌⊎◌, unwrap_or, sum_by, nat_lt, ◌==◌, is_some, filter, AllByRecursion, list_any, enumerate_from, Contains, IsDistinct, bytes_eq, get-entries, nat_cmp, slice_cmp, not-false, and_parts, or_parts, eqb-true, eqb-false, ltb-false, false≢true, or_from, div_ceil_times, common_steps, length-map, sum_by-cons, Fault, BadSliceSize, BadCount, BadBase, NoInput, BadName, DuplicateInput, NoSuchFile, EmptyFile, TooManySlices, DuplicateId, NameTooLong, Exists, fault_where, fault_at, slice_count, slices, is_name, is_par_name, is_among, distinct, Folder, File, IsFolder, has, bytes_of, files, laid_over, id_of, volume_name, volume_numbers, volume_size, volumes_before, all_slices, in_id_order, volumes, record_of, is_slice_size, MadeFrom, target_of_file, target_names, CreateArgs, Create, files_of, outputs_of, are_counts, is_input_name, refusal, create_refusal, after, AreInputs, IsVolume, IsVolumeOrOther, IsOfOthers, set_id_of, HoldsVolumes, FitsCreate, IsDamage, written_names, FollowsCreate, all_weaker, size_positive, distinct_by_length, same_either_way, std_from_distinct, found_at_key, contained_first, contained_later, all-append, all-parts, all-flat_map, where_none, all_none, at_none, some_if, by_either, names_of_files, at_name, recursion_from_All, filter_passes, same_Some, IsPermutation-sym, IsPermutation-map, map-map, pair_of, Matches, windows, AreBytes, candidates, NoCollision, all-filter, moved-all, moved-ordered, IsTrueTo, accepted_after}
 use Rattle.std.proofs.Math.Seq.{take-append_seam, drop-append_seam}
-use Rattle.par2_spec.proofs.MovesLaws.{get_put, get_without}
+use Rattle.par2_spec.proofs.MovesLaws.{get_put}
 use Rattle.std.proofs.lemmas.List.Folds.{list_any-append}
 use Rattle.std.proofs.Math.Nat.{zero-mul}
 use Rattle.par2_laws.proofs.VolumeFolders.{set_made}
+use Rattle.par2_laws.proofs.Causes.{refused_by}
+use Rattle.par2_laws.proofs.Reading.{reading, leaves_files, never_fails, has_choice}
+use Rattle.par2_laws.specs.Creates.{HaveAChoice}
 use Rattle.std.specs.FinMap as map_of
 
 -- ---- tests that find no fault
@@ -156,10 +159,7 @@ module _ (before damaged : Folder) (a : CreateArgs) (base : List ℕ) (accepted 
   is_there name par there = unfold after in sym (damage.pars name par there) ∙ some_if [] (map_of.get damaged name) there
 
   is_volume_or_other : (name : List ℕ) → is_par_name name ≡ true → has damaged name ≡ true → IsVolumeOrOther a.slice inputs (bytes_of damaged name)
-  is_volume_or_other name par there =
-      by_either (laid_cases (outputs_of before a) before name (bytes_of damaged name) (is_there name par there))
-      (λ i. inl (written (bytes_of damaged name) i))
-      (λ r. subst (IsVolumeOrOther a.slice inputs) (ap (λ o. unwrap_or o []) r.1) (fits.other_pars name par (ap is_some r.1) r.0))
+  is_volume_or_other name par there = grind (arith, by_either, laid_cases, is_there, written, unwrap_or)
 
   none_there : (name : List ℕ) → has damaged name ≡ false → IsOfOthers (set_id_of a.slice inputs) (bytes_of damaged name)
   none_there name h = unfold accepted_after in grind arith
@@ -179,22 +179,6 @@ module _ (before damaged : Folder) (a : CreateArgs) (base : List ℕ) (accepted 
 
   pub set_of_files : MadeFrom damaged base (in_id_order inputs) a.slice
   set_of_files = set_made damaged base a.slice inputs (inputs_taken before a accepted fits) holds_volumes
-
--- ---- removing files after a create is damage that leaves its PAR2 files as they are
-
--- a file that was put into a folder, or was in it before, is in the folder
-laid_there : (files : List File) (folder : Folder) (q : List ℕ) → (is_among (map (λ file. file.0) files) q || has folder q) ≡ true → has (laid_over files folder) q ≡ true
-unfolding laid_over
-laid_there [] folder q h = h
-laid_there (file ∷ files) folder q h =
-    let step : (b c : Bool) (o : Option (List ℕ)) → ((b || c) || is_some o) ≡ true → (c || is_some (cond b (Some file.1) o)) ≡ true = λ b c o k. grind arith in
-    laid_there files (map_of.insert folder file.0 file.1) q
-    (ap (λ o. is_among (map (λ f. f.0) files) q || is_some o) (get_put folder file.0 file.1 q) ∙ step (bytes_eq q file.0) (is_among (map (λ f. f.0) files) q) (map_of.get folder q) h)
-
-pub removal : (before : Folder) (a : CreateArgs) (base : List ℕ) (gone : List (List ℕ)) → is_among (written_names before a) base ≡ true → is_among gone base ≡ false
-    → IsDamage before (without gone (after before (Create a))) a base
-unfolding after
-removal before a base gone written stays = grind (arith, written, get_without, laid_there, or_left, false≢true)
 
 -- ---- searched files
 
@@ -266,8 +250,23 @@ module _ (before damaged : Folder) (a : CreateArgs) (base : List ℕ) (extras : 
   as_before folder [] there h = tt
   as_before folder (name ∷ words) there h = (h.0 ∙ sym (some_if [] (map_of.get before name) (not-false (has before name) there.0)), as_before folder words there.1 h.1)
 
-  -- a folder with the files has the inputs as they were
-  pub gives_back : (folder : Folder) → AllByRecursion (λ file. map_of.get folder file.0 ≡ Some file.1) ordered → AllByRecursion (λ name. map_of.get folder name ≡ map_of.get before name) a.inputs
-  gives_back folder h =
-      as_before folder a.inputs (passes before a follows.created).there
-      (moved-all (λ file. map_of.get folder file.0 ≡ Some file.1) ordered given (IsPermutation-sym given ordered (moved-ordered given)) h)
+  abbrev repair : Bool → Command
+  repair purge = Repair base extras purge
+
+  -- an accepted repair leaves the inputs as they were
+  pub gives_back : (purge : Bool) → refusal damaged (repair purge) ≡ None → AllByRecursion (λ name. map_of.get (after damaged (repair purge)) name ≡ map_of.get before name) a.inputs
+  gives_back purge accepted =
+      as_before (after damaged (repair purge)) a.inputs (passes before a follows.created).there
+      (moved-all (λ file. map_of.get (after damaged (repair purge)) file.0 ≡ Some file.1) ordered given (IsPermutation-sym given ordered (moved-ordered given))
+      (leaves_files damaged base extras ordered s originals purge accepted))
+
+  -- a repair is refused for few causes
+  pub few_causes : (purge : Bool) (fault : Fault) → refusal damaged (repair purge) ≡ Some fault → may_refuse fault ≡ true
+  few_causes purge fault refused =
+      let never = never_fails damaged base extras ordered s originals purge in
+      by_either (reading damaged base extras purge m.set m.reads)
+      (λ read. refused_by damaged m.set searched fault (λ e. never (refused ∙ ap (λ f. Some f) e)) (sym read.1 ∙ refused))
+      (λ absent. let reported = sym absent.1 ∙ refused in cc)
+
+  pub leaves_choice : (purge : Bool) (missing rank : ℕ) → refusal damaged (repair purge) ≡ Some (NotRepairable missing rank) → HaveAChoice before damaged a base extras
+  leaves_choice purge missing rank refused = record { set = originals.made.set; reads = originals.made.reads; others = has_choice damaged base extras ordered s originals purge missing rank refused }

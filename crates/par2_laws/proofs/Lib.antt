@@ -1,6 +1,7 @@
 mod Common
-pub mod Causes
-pub mod RecoveryBytes
+mod Causes
+mod Checksums
+mod Reading
 mod SetsOfFiles
 mod VolumePackets
 mod VolumeFolders

@@ -1,5 +1,5 @@
 -- A folder of volumes has the set that was made from their files.
-use Rattle.par2_laws.proofs.Common.{◌≡◌, ℕ, suc, ◌<◌, Bool, true, false, cond, ◌&&◌, List, [], ◌∷◌, ◌++◌, length, map, Option, Some, None, refl, sym, ap, ◌∙◌, subst, inl, inr, arith, ◌⊎◌, append_assoc, Ok, ◌==◌, filter, filter_map, find, slice_get, option_map, flat_map, ok_or, sum_by, AllByRecursion, Contains, slice_index_or, bytes_eq, false≢true, and_from, eq-eqb, le-leb, length-map, Contains-append_left, Contains-append_right, same_Some, map-map, Kind, Main, FileDesc, Ifsc, Creator, slice_count, File, Folder, bytes_of, Packet, IfscBody, read_desc, read_ifsc, accepted, DescBody, FileRecord, id_of, packet_of, main_id, main_bytes, desc_bytes, ifsc_bytes, creator_bytes, in_id_order, record_of, index_packets, packets_with, main_of, description_of, pairs_of, target_of, target_of_file, all_some, ParSet, MadeFrom, ◌>>=◌, unless, are_in_profile, other_par_names, read_set, set_of, AreDescribed, all_weaker, test_from_all, itself, distinct_same, distinct_from_std, contained_first, contained_later, of_contained, all-map, target_with, set_with, finished, by_checksums, by_profile, by_descriptions, by_size, by_main, sum_by-cons, NoPackets, NoMain, NoDescription, NoChecksums, BadSet, is_name, AreInputs, IsVolume, set_id_of, IsOfOthers, HoldsVolumes, moved-ordered, by_either, common_steps}
+use Rattle.par2_laws.proofs.Common.{◌≡◌, ℕ, suc, ◌<◌, Bool, true, false, cond, ◌&&◌, List, [], ◌∷◌, ◌++◌, length, map, Option, Some, None, refl, sym, ap, ◌∙◌, subst, inl, inr, arith, ◌⊎◌, append_assoc, Ok, ◌==◌, filter, filter_map, find, slice_get, option_map, flat_map, ok_or, sum_by, AllByRecursion, Contains, slice_index_or, bytes_eq, false≢true, and_from, eq-eqb, le-leb, length-map, Contains-append_left, Contains-append_right, same_Some, map-map, Kind, Main, FileDesc, Ifsc, Creator, slice_count, File, Folder, bytes_of, Packet, IfscBody, read_desc, read_ifsc, accepted, DescBody, FileRecord, id_of, packet_of, main_id, main_bytes, desc_bytes, ifsc_bytes, creator_bytes, in_id_order, record_of, index_packets, packets_with, main_of, description_of, pairs_of, target_of, target_of_file, all_some, ParSet, MadeFrom, unless, are_in_profile, other_par_names, read_set, set_of, AreDescribed, all_weaker, test_from_all, itself, distinct_same, distinct_from_std, contained_first, contained_later, of_contained, all-map, target_with, set_with, finished, by_checksums, by_profile, by_descriptions, by_size, by_main, sum_by-cons, NoPackets, NoMain, NoDescription, NoChecksums, BadSet, is_name, AreInputs, IsVolume, set_id_of, IsOfOthers, HoldsVolumes, moved-ordered, by_either, common_steps, ◌>>=◌}
 use Rattle.par2_laws.proofs.SetsOfFiles.{all_contained, IsDescribed, each_described, main_of_files, desc_of_file, ifsc_of_file, main_written, desc_written, ifsc_written, AllSay, contained_cases, by_ids, description_is, pairs_are_its, target_is, SaysIfOurs, folder_says, made_if_said}
 use Rattle.par2_laws.proofs.VolumePackets.{pairs_count, index_of, moved, described, slices_of, IsReadAs, volumes_read, IsOurs, volume_ours}
 
@@ -181,11 +181,7 @@ module _ (folder : Folder) (base : List ℕ) (s : ℕ) (files : List File) (is :
   each_says bytes (inr h) = grind (arith, all_weaker, false≢true, itself)
 
   all_say : AllByRecursion (λ name. AllByRecursion (SaysIfOurs their_id s ordered) (accepted (bytes_of folder name))) (base ∷ other_par_names folder base)
-  all_say = (
-    volume_says (bytes_of folder base) holds.of_base,
-    all_weaker (λ name. IsVolume s files (bytes_of folder name) ⊎ IsOfOthers their_id (bytes_of folder name)) (λ name. AllByRecursion (SaysIfOurs their_id s ordered) (accepted (bytes_of folder name)))
-        (λ name h. each_says (bytes_of folder name) h) (other_par_names folder base) holds.of_others,
-  )
+  all_say = grind (arith, volume_says, all_weaker, each_says)
 
   pub set_made : MadeFrom folder base ordered s
   set_made = unfold set_of in

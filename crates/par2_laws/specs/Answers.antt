@@ -1,10 +1,11 @@
 -- The result of a repair: the folder that it leaves, or a fault.
-use Rattle.std.specs.Prelude.{◌≡◌, ◌≢◌, ◌⊎◌, ℕ, Bool, IsTrue, List, Some, None, Result, Ok, Err, IfErr, IfOk}
+use Rattle.std.specs.Prelude.{◌≡◌, ◌≢◌, ◌⊎◌, ℕ, Bool, false, IsTrue, List, Some, None, Result, Ok, Err, IfErr, IfOk}
 use Rattle.std.specs.List.{AllByRecursion}
 use Rattle.std.specs.FinMap as map_of
 use Rattle.par2_spec.specs.Commands.{Command, CreateArgs, Repair}
 use Rattle.par2_spec.specs.Folders.{Folder, File}
 use Rattle.par2_spec.specs.Rank.{AnotherAgrees}
+use Rattle.par2_spec.specs.Plans.{AreFewFor}
 use Rattle.par2_spec.specs.Refusals.{set_in, refusal, after}
 use Rattle.par2_spec.specs.Repairs.{HoldsRepaired}
 use Rattle.par2_spec.specs.Search.{candidates, known}
@@ -42,6 +43,26 @@ OthersAgree folder base extras originals s original =
     let set = original.made.set in
     AnotherAgrees s (known folder set (candidates folder set extras)) (map_of.entries set.recovery) (all_slices s originals)
 
+-- a repair leaves the files, also one that purges
+abbrev pub AcceptedRepairLeavesTheFiles : Type 0
+AcceptedRepairLeavesTheFiles =
+    (folder : Folder) (base : List ℕ) (extras : List (List ℕ)) (purge : Bool) (files : List File) (s : ℕ)
+    → IsTrueTo folder base extras files s → refusal folder (Repair base extras purge) ≡ None
+    → HasFiles files (after folder (Repair base extras purge))
+
+-- no rebuilt file has a wrong MD5
+abbrev pub RepairNeverFails : Type 0
+RepairNeverFails =
+    (folder : Folder) (base : List ℕ) (extras : List (List ℕ)) (purge : Bool) (files : List File) (s : ℕ)
+    → IsTrueTo folder base extras files s → refusal folder (Repair base extras purge) ≢ Some RepairFailed
+
+-- a repair is refused as not repairable only if other slices also agree
+abbrev pub RefusedRepairLeavesAChoice : Type 0
+RefusedRepairLeavesAChoice =
+    (folder : Folder) (base : List ℕ) (extras : List (List ℕ)) (purge : Bool) (files : List File) (s missing rank : ℕ)
+    (original : IsTrueTo folder base extras files s) → refusal folder (Repair base extras purge) ≡ Some (NotRepairable missing rank)
+    → OthersAgree folder base extras files s original
+
 -- with this result a repair restores the files that its set was made from
 pub record RestoresFiles (folder : Folder) (base : List ℕ) (extras : List (List ℕ)) (answer : Result Folder Fault) : Type 0 where
   -- an accepted repair leaves each of the files
@@ -51,11 +72,37 @@ pub record RestoresFiles (folder : Folder) (base : List ℕ) (extras : List (Lis
   -- a repair is refused as not repairable only if other slices also agree
   pub undetermined : (originals : List File) (s missing rank : ℕ) (original : IsTrueTo folder base extras originals s) → IfErr answer (λ fault. fault ≡ NotRepairable missing rank → OthersAgree folder base extras originals s original)
 
+-- a repair with the result of the definitions restores the files
+abbrev pub RepairRestoresTheFiles : Type 0
+RepairRestoresTheFiles =
+    (folder : Folder) (base : List ℕ) (extras : List (List ℕ)) (purge : Bool) (answer : Result Folder Fault)
+    → AnswersRepair folder base extras purge answer → RestoresFiles folder base extras answer
+
 -- ---- a folder that was damaged after a create
 
 -- each of these files is as it was
 abbrev pub KeepsFiles : List (List ℕ) → Folder → Folder → Type 0
 KeepsFiles names before folder = AllByRecursion (λ name. map_of.get folder name ≡ map_of.get before name) names
+
+-- an accepted repair leaves each input as it was at the create, also one that purges
+abbrev pub RepairGivesTheCreatedFilesBack : Type 0
+RepairGivesTheCreatedFilesBack =
+    (before damaged : Folder) (a : CreateArgs) (base : List ℕ) (extras : List (List ℕ)) (purge : Bool)
+    → FollowsCreate before damaged a base extras → refusal damaged (Repair base extras purge) ≡ None
+    → KeepsFiles a.inputs before (after damaged (Repair base extras purge))
+
+-- a repair is refused for few causes
+abbrev pub CreatedFilesMayBeRefused : Type 0
+CreatedFilesMayBeRefused =
+    (before damaged : Folder) (a : CreateArgs) (base : List ℕ) (extras : List (List ℕ)) (purge : Bool) (fault : Fault)
+    → FollowsCreate before damaged a base extras → refusal damaged (Repair base extras purge) ≡ Some fault → IsTrue (may_refuse fault)
+
+-- a repair is refused as not repairable only if other slices also agree
+abbrev pub CreatedFilesHaveAChoice : Type 0
+CreatedFilesHaveAChoice =
+    (before damaged : Folder) (a : CreateArgs) (base : List ℕ) (extras : List (List ℕ)) (purge : Bool) (missing rank : ℕ)
+    → FollowsCreate before damaged a base extras → refusal damaged (Repair base extras purge) ≡ Some (NotRepairable missing rank)
+    → HaveAChoice before damaged a base extras
 
 -- with this result a repair restores the inputs of a create
 pub record RestoresInputs (folder : Folder) (base : List ℕ) (extras : List (List ℕ)) (answer : Result Folder Fault) : Type 0 where
@@ -66,8 +113,20 @@ pub record RestoresInputs (folder : Folder) (base : List ℕ) (extras : List (Li
   -- a repair is refused as not repairable only if other slices also agree
   pub undetermined : (before : Folder) (a : CreateArgs) (missing rank : ℕ) → FollowsCreate before folder a base extras → IfErr answer (λ fault. fault ≡ NotRepairable missing rank → HaveAChoice before folder a base extras)
 
+-- a repair with the result of the definitions restores the inputs of a create
+abbrev pub RepairRestoresTheInputs : Type 0
+RepairRestoresTheInputs =
+    (folder : Folder) (base : List ℕ) (extras : List (List ℕ)) (purge : Bool) (answer : Result Folder Fault)
+    → AnswersRepair folder base extras purge answer → RestoresInputs folder base extras answer
+
 -- ---- any set
 
 -- a repair that doesn't purge leaves this folder, file by file: targets and asides, and all others as they were
 abbrev pub LeavesEachFile : Folder → List ℕ → List (List ℕ) → Folder → Type 0
 LeavesEachFile folder base extras left = (set : ParSet) → set_in folder base extras ≡ Ok set → HoldsRepaired folder set (candidates folder set extras) left
+
+-- an accepted repair that doesn't purge leaves each file as `HoldsRepaired` says
+abbrev pub RepairLeavesEachFile : Type 0
+RepairLeavesEachFile =
+    (folder left : Folder) (base : List ℕ) (extras : List (List ℕ)) → IsRepaired folder left (Repair base extras false)
+    → AreFewFor folder (Repair base extras false) → LeavesEachFile folder base extras left

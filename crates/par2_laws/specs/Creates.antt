@@ -6,7 +6,7 @@ use Rattle.par2_spec.specs.Rank.{AreBytes, AnotherAgrees}
 use Rattle.par2_spec.specs.Names.{is_par_name, is_among}
 use Rattle.par2_spec.specs.Folders.{Folder, IsFolder, has, bytes_of}
 use Rattle.par2_spec.specs.Volumes.{all_slices, in_id_order}
-use Rattle.par2_spec.specs.Sets.{ParSet, set_of}
+use Rattle.par2_spec.specs.Sets.{ParSet, MadeFrom, set_of}
 use Rattle.par2_spec.specs.Search.{NoCollision, known, candidates}
 use Rattle.par2_spec.specs.Commands.{CreateArgs, Create, files_of, outputs_of}
 use Rattle.par2_spec.specs.Refusals.{refusal, after}
@@ -60,3 +60,10 @@ pub record HaveAChoice (before damaged : Folder) (a : CreateArgs) (base : List �
   pub others : let found = known damaged set (candidates damaged set extras) in
       let slices = all_slices a.slice (in_id_order (files_of before a.inputs)) in
       AnotherAgrees a.slice found (map_of.entries set.recovery) slices
+
+-- after a create and damage the set of each remaining base was made from the inputs
+abbrev pub CreatedSetIsMadeFromItsFiles : Type 0
+CreatedSetIsMadeFromItsFiles =
+    (before damaged : Folder) (a : CreateArgs) (base : List ℕ)
+    → refusal before (Create a) ≡ None → FitsCreate before a → IsDamage before damaged a base
+    → MadeFrom damaged base (in_id_order (files_of before a.inputs)) a.slice

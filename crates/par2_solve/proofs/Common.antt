@@ -34,7 +34,7 @@ pub use Rattle.par2_spec.proofs.FieldProducts.{product-lt, product-one, product_
 pub use Rattle.par2_spec.proofs.FoundLaws.{all-filter}
 pub use Rattle.par2_spec.proofs.ListsLaws.{all-append, all-each, all-map, all-parts, all_at, all_from, all_get, all_unmap, filter-map, some_list}
 pub use Rattle.par2_spec.proofs.PolynomialLaws.{length-quotient, length-with_roots, quotient_elements, quotient_itself, quotient_others, times_elements, value-lt, value_times, with_roots_elements}
-pub use Rattle.par2_spec.proofs.RunLaws.{close_kept, first_kept, run_determines, run_rank}
+pub use Rattle.par2_spec.proofs.RunLaws.{close_kept, run_determines, run_rank}
 pub use Rattle.par2_spec.proofs.SumLaws.{dot_sum, field_sum-lt, field_sum_head, field_sum_none, field_sum_one, field_sum_same, field_sum_scaled, field_sum_xor, product_at, xor_off}
 pub use Rattle.par2_spec.proofs.UniqueLaws.{agreeing_are_one, coefficients_are, dot-lt, words_are}
 pub use Rattle.par2_spec.proofs.WordLaws.{bytes_at, combination_words, length-lists_of, read_at, word-lt, written_changed, written_here}

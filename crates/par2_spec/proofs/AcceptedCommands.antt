@@ -1,5 +1,6 @@
 -- The changes of a command lead to its folder.
-use Rattle.par2_spec.proofs.Common.{◌≡◌, ℕ, ◌+◌, List, [], ◌∷◌, ◌++◌, refl, true, false, Bool, not, arith, Option, Some, None, Result, Ok, Err, position, if◌then◌else◌, list_all, and_parts, not-false, position_from-zero, Fault, NoSuchFile, Folder, has, Change, effects, are_applicable, ParSet, set_of, candidates, after_repair, after_repair_and_purge, after_purge, par_files, FitsRepair, Command, Create, Verify, Repair, Purge, by_set, set_in, after, repair_changes, repair_removals, purge_changes, AreFewFor, LeadsToAfter, changes_of}
+use Rattle.par2_spec.proofs.ReadLaws.{FitsRepair}
+use Rattle.par2_spec.proofs.Common.{◌≡◌, ℕ, ◌+◌, List, [], ◌∷◌, ◌++◌, refl, true, false, Bool, not, arith, Option, Some, None, Result, Ok, Err, position, if◌then◌else◌, list_all, and_parts, not-false, position_from-zero, Fault, NoSuchFile, Folder, has, Change, effects, are_applicable, ParSet, set_of, candidates, after_repair, after_repair_and_purge, after_purge, par_files, Command, Create, Verify, Repair, Purge, by_set, set_in, after, repair_changes, repair_removals, purge_changes, AreFewFor, LeadsToAfter, changes_of}
 use Rattle.par2_spec.proofs.Basics.{create_leads, removals_lead, fits_of, no_place, test_from_all, all_weaker, ok_no_err}
 use Rattle.par2_spec.proofs.CreateLaws.{create_applies}
 use Rattle.par2_spec.proofs.RepairLaws.{fits_all, asides_free, repair_applies, repair_leads, repair_and_purge_applies, repair_and_purge_leads, purge_applies}

@@ -82,10 +82,7 @@ more_steps n c = sym (crc_steps-add 8 (8 * n) c) ∙ ap (λ k. crc_steps k c) (l
 -- a change of the remainder passes through the bytes independently
 pub fold-xor : (bytes : List ℕ) (a b : ℕ) → fold crc_byte (bit_xor a b) bytes ≡ bit_xor (fold crc_byte a bytes) (crc_steps (8 * length bytes) b)
 fold-xor [] a b = refl
-fold-xor (byte ∷ bytes) a b =
-    ap (λ c. fold crc_byte c bytes) (crc_byte-xor a b byte)
-    ∙ fold-xor bytes (crc_byte a byte) (crc_steps 8 b)
-    ∙ ap (bit_xor (fold crc_byte (crc_byte a byte) bytes)) (more_steps (length bytes) b)
+fold-xor (byte ∷ bytes) a b = grind (arith, crc_byte-xor, more_steps, fold-xor bytes (crc_byte a byte) (crc_steps 8 b))
 
 pub fold-append : (xs ys : List ℕ) (c : ℕ) → fold crc_byte c (xs ++ ys) ≡ fold crc_byte (fold crc_byte c xs) ys
 fold-append [] ys c = refl
@@ -98,9 +95,6 @@ fold-zeros (suc n) c =
     ap (λ t. fold crc_byte t (replicate n 0)) (ap (crc_steps 8) (xor_zero_r c))
     ∙ fold-zeros n (crc_steps 8 c)
     ∙ more_steps n c
-
-pub crc32-zeros : (bytes : List ℕ) (n : ℕ) → crc32 (bytes ++ replicate n 0) ≡ bit_xor (crc_steps (8 * n) (bit_xor (crc32 bytes) 0xFFFFFFFF)) 0xFFFFFFFF
-crc32-zeros bytes n = unfold crc32 in grind (arith, fold-append, fold-zeros, xor_off)
 
 stepped : (p q r s : ℕ) → bit_xor (bit_xor (bit_xor p q) r) s ≡ bit_xor p (bit_xor r (bit_xor q s))
 stepped p q r s =

@@ -1,7 +1,7 @@
 -- Names that the proofs of this crate import.
 
 pub use Rattle.std.proofs.Common.{Bool, Global, IsTrue, Less, List, T, Vec, [], add-zero, ap, append-nil, append_assoc, ap₂, arith, cond, div-lt_iff_lt-mul, drop, eqb, false, get_or, inl, inr, leb, length, length-append, length-drop, length-set, ltb, map, mod-lt, mul_comm, not, one-mul, pow-add, pow-suc, pow_pos, refl, set, subst, suc, suc-add, sym, take, true, zero, zero-add, zero-mul, ℕ, ◌%◌, ◌&&◌, ◌*◌, ◌++◌, ◌+◌, ◌-◌, ◌/◌, ◌<◌, ◌^◌, ◌||◌, ◌∙◌, ◌∷◌, ◌≡◌, ◌≢◌, ◌≤◌, ◌⊎◌}
-pub use Rattle.std.proofs.Math.Bool.{and-false, and-true, and_assoc, not-not}
+pub use Rattle.std.proofs.Math.Bool.{and-false, not-not}
 pub use Rattle.std.proofs.Math.Nat.{add-mul, div-add-mod, mul-le-mul_right, mul_assoc, one-le-pow, pow-le-pow_right, zero-div, zero-mod}
 pub use Rattle.std.proofs.Math.Seq.{drop-append_seam, drop-cons, drop-nil, take-append-add, take-append_seam}
 pub use Rattle.std.proofs.lemmas.Bool.{and_from, and_parts, and_right, both_ways, cases_Bool, cases_eq, cases_lt, cond-true, eq-eqb, eqb-false, eqb-true, false_from_ne_true, false≢true, le-leb, leb-false, leb-true, lt-leb, lt-ltb, ltb-true, ne_eqb, not-false, not-true, not_from_false, or_cases, or_from, or_left, or_parts, or_right, true_from_ne_false}
@@ -9,7 +9,7 @@ pub use Rattle.std.proofs.lemmas.Bool.Decides.{Decides-eqb, nat_tests, same_from
 pub use Rattle.std.proofs.lemmas.Cmp.{nat_eq_equiv, nat_list_eq_equiv}
 pub use Rattle.std.proofs.lemmas.Grind.{common_steps, div_ceil_times, flat_map-append, reverse_onto}
 pub use Rattle.std.proofs.lemmas.Iterator.Adapters.{position_from-zero}
-pub use Rattle.std.proofs.lemmas.List.{drop-drop, drop_all, drop_at, ext_get_or, get_or-map, get_or-reverse, get_or-set_other, get_or-set_same, get_or-take, get_or_default, get_or_past, length-map, length-replicate, length-reverse, length-take, length-take-le, length_push, map-append, map-id, map-set, nil_from_length, replicate_more, reverse-append, reverse-reverse, take-append-drop, take-append-le, take-map, take-take, take_all, take_at, take_more}
+pub use Rattle.std.proofs.lemmas.List.{drop-drop, drop_all, drop_at, ext_get_or, get_or-map, get_or-reverse, get_or-set_other, get_or-set_same, get_or-take, get_or_past, length-map, length-replicate, length-reverse, length-take, length-take-le, length_push, map-append, map-id, map-set, nil_from_length, replicate_more, reverse-append, reverse-reverse, take-append-drop, take-append-le, take-map, take-take, take_all, take_at, take_more}
 pub use Rattle.std.proofs.lemmas.List.Elements.{All-contains, All-contains_itself, All-filter, All-from_get_or, All-from_recursion, All-get_or, Contains-append_right, Contains-get_or, filter_passes, recursion_from_All}
 pub use Rattle.std.proofs.lemmas.List.Folds.{flat_map-map, list_all-append, list_all-map, list_any-append, prefix_len-append, prefix_len-replicate}
 pub use Rattle.std.proofs.lemmas.List.FromFn.{get_or-range_with_len, length-map-range_with_len, length-range_with_len}
@@ -34,11 +34,11 @@ pub use Rattle.std.specs.Int.Bits.{xor_assoc, xor_self, xor_shifted, xor_zero_l,
 pub use Rattle.std.specs.Int.RustNames.{bit_xor}
 pub use Rattle.std.specs.List.{AllAdjacentBelow, AllByRecursion, AllZip, Contains, concat, cons_option, count_by, enumerate_from, list_all, list_any, position_from, position_or_len, prefix_len, range_with_len, starts_with, suffix_len}
 unfoldable pub use Rattle.std.specs.List.{IsDistinct}
-pub use Rattle.std.specs.List.Sorted.{IsNonDecreasingBy, IsStrictlyIncreasing}
+pub use Rattle.std.specs.List.Sorted.{IsStrictlyIncreasing}
 unfoldable pub use Rattle.std.specs.List.Sorted.{IsStrictlySortedBy}
 pub use Rattle.std.specs.Option.{ForSome, option_or}
 pub use Rattle.std.specs.Ordering.{eq_by_cmp, is_eq, is_lt, nat_cmp}
-pub use Rattle.std.specs.Prelude.{Err, IfErr, IfOk, IfSome, IsErrOf, IsPermutation, None, Ok, OnErr, OnOk, Option, Result, Some, codes, decimal, filter, filter_map, find, flat_map, fold, if◌then◌else◌, is_none, is_ok, is_some, min, nat_eq, nat_le, nat_lt, ok_or, option_and_then, option_map, option_to_list, position, replicate, reverse, slice_index, slice_index_or, sum_by, unwrap_or, zip, ◌==◌, ◌↔◌}
+pub use Rattle.std.specs.Prelude.{Err, IfErr, IfOk, IfSome, IsErrOf, IsPermutation, None, Ok, OnOk, Option, Result, Some, codes, decimal, filter, filter_map, find, flat_map, fold, if◌then◌else◌, is_none, is_ok, is_some, min, nat_eq, nat_le, nat_lt, ok_or, option_and_then, option_map, option_to_list, position, replicate, reverse, slice_index, sum_by, unwrap_or, zip, ◌==◌, ◌↔◌}
 pub use Rattle.std.specs.Str.{IsUtf8, bytes_eq, is_utf8}
 pub use Rattle.std.specs.declared.cmp.Ordering.{Ordering}
 pub use Rattle.std.specs.declared.cmp.Ordering.TheVariants.{Equal}
@@ -54,7 +54,7 @@ pub use Rattle.par2_spec.specs.Field.{is_coprime, modulus}
 unfoldable pub use Rattle.par2_spec.specs.Field.{coefficient, constant, constant_powers, mul, pow, product, remainder}
 pub use Rattle.par2_spec.specs.Folders.{File, Folder, IsFolder, bytes_of, files, fingerprint, has, names, without}
 unfoldable pub use Rattle.par2_spec.specs.Folders.{laid_over}
-pub use Rattle.par2_spec.specs.Laws.{AgreeingListsAreOne, DescIsRead, FilesHaveTheirSize, HalfwayJournalOpensAsBefore, HalfwayJournalStillOpens, HalfwayBytesOpenAsBefore, HalfwayBytesStillOpen, MainIsRead, OnlyOneOrder, RecoverySlicesAreRead, RefusedRepairHasAChoice, SomeSlicesAgree, TrueSlicesAreRebuilt, TwoListsAgree}
+pub use Rattle.par2_spec.specs.Laws.{FilesHaveTheirSize, HalfwayBytesOpenAsBefore, HalfwayBytesStillOpen, TrueSlicesAreRebuilt, TwoListsAgree}
 pub use Rattle.par2_spec.specs.Lists.{all_buffers}
 unfoldable pub use Rattle.par2_spec.specs.Lists.{all_below, all_lists}
 pub use Rattle.par2_spec.specs.Names.{IsLeastFree, distinct, is_among, is_par_name, numbered}
@@ -65,19 +65,19 @@ pub use Rattle.par2_spec.specs.Packets.{DescBody, IfscBody, IsCanonical, IsPacke
 unfoldable pub use Rattle.par2_spec.specs.Packets.{accepted_after, begins_with_packet, first_packet, kind_of, packet, read_desc, read_ifsc, read_main, read_recovery, u32_at, u64_at}
 pub use Rattle.par2_spec.specs.Plans.{AreFewFor, LeadsToAfter, LeadsToAfterRequested, create_changes, now_at, purge_changes}
 unfoldable pub use Rattle.par2_spec.specs.Plans.{changes_of, repair_changes, repair_removals}
-pub use Rattle.par2_spec.specs.Polynomials.{AreElements, ArePoints, Interpolates, times, times_root}
+pub use Rattle.par2_spec.specs.Polynomials.{AreElements, ArePoints, times, times_root}
 unfoldable pub use Rattle.par2_spec.specs.Polynomials.{plus, quotient, value, with_roots}
-pub use Rattle.par2_spec.specs.Rank.{Agrees, AnotherAgrees, AreBytes, IsKept, IsRebuilt, IsRepairable, IsVector, Kills, is_as_known, is_repairable, is_zero, kept, kept_slices, kills, rank, smaller}
+pub use Rattle.par2_spec.specs.Rank.{Agrees, AnotherAgrees, AreBytes, IsKept, IsRebuilt, IsRepairable, IsVector, Kills, is_as_known, is_repairable, is_zero, kept, kept_slices, kills, rank, smaller, AreSurvivors}
 unfoldable pub use Rattle.par2_spec.specs.Rank.{agrees, is_independent, is_solvable}
 pub use Rattle.par2_spec.specs.Recovery.{coefficients}
 unfoldable pub use Rattle.par2_spec.specs.Recovery.{combination, dot, recovery}
 pub use Rattle.par2_spec.specs.Refusals.{absent_file, are_counts, bad_name, by_set, purge_refusal}
 unfoldable pub use Rattle.par2_spec.specs.Refusals.{after, create_refusal, early_refusal, head_fault, refusal, repair_refusal, set_in}
-pub use Rattle.par2_spec.specs.Repairs.{AreFew, FitsRepair, HoldsRepaired, after_purge, after_repair_and_purge, aside_files, cut_into, files_of_slices, is_par_file, lost_of_unmatched, matched_files, names_without_match, par_files, put_aside, slices_by_target, taken_for}
+pub use Rattle.par2_spec.specs.Repairs.{AreFew, HoldsRepaired, after_purge, after_repair_and_purge, aside_files, cut_into, files_of_slices, is_par_file, matched_files, names_without_match, par_files, put_aside, taken_for}
 unfoldable pub use Rattle.par2_spec.specs.Repairs.{after_repair, aside, rebuilt, rebuilt_targets}
-pub use Rattle.par2_spec.specs.Reports.{Complete, HasIntactFile, IntactAreFound, IsByTarget, IsFound, IsFoundWhole, IsVerdict, IsVerdictIn, MatchedAreFound, RefusedAsReported, Report, State, StatesFollow, found_of, is_complete, incomplete_state, states_by, verdict_of}
+pub use Rattle.par2_spec.specs.Reports.{IsVerdict, IsVerdictIn, RefusedAsReported, Report, is_complete, incomplete_state, verdict_of}
 unfoldable pub use Rattle.par2_spec.specs.Reports.{report_in, report_of, report_of_target, state_of}
-pub use Rattle.par2_spec.specs.Search.{AreFirstMatches, NoCollision, candidates, intact_names, is_intact, is_incomplete, lost, match_of, matched, matching, incomplete, incomplete_names, survivors}
+pub use Rattle.par2_spec.specs.Search.{NoCollision, candidates, intact_names, is_intact, is_incomplete, lost, match_of, matched, matching, incomplete, incomplete_names, survivors}
 unfoldable pub use Rattle.par2_spec.specs.Search.{known, matches}
 pub use Rattle.par2_spec.specs.Sessions.{CanWalk, KeptSession, OnlyGrew, Session, changes_unless, first_entry, others, session_of_kept, session_unless}
 unfoldable pub use Rattle.par2_spec.specs.Sessions.{changes_requested, folders_along, history_of, kept_done, kept_redone, kept_undone, session_after, session_with, walks}

@@ -1,5 +1,5 @@
 -- The outputs of a create have distinct names, so its changes apply and lead to its folder.
-use Rattle.par2_spec.proofs.Common.{◌≡◌, ℕ, zero, suc, ◌+◌, ◌-◌, ◌%◌, ◌^◌, ◌<◌, ◌≤◌, List, [], ◌∷◌, ◌++◌, length, map, refl, sym, ap, ◌∙◌, subst, true, false, Bool, ◌||◌, arith, length-append, drop, append_assoc, flat_map, codes, nat_lt, if◌then◌else◌, range_with_len, one-le-pow, pow-le-pow_right, drop-append_seam, length-take, map-map, and_from, or_from, or_left, or_right, is_among, Folder, File, has, Write, Replace, is_applicable, are_applicable, volume_name, volumes_before, volume_numbers, volume_size, five_digits, stem, record_of, in_id_order, index_packets, volumes, packet, CreateArgs, outputs_of, create_changes}
+use Rattle.par2_spec.proofs.Common.{◌≡◌, ℕ, zero, suc, ◌+◌, ◌-◌, ◌%◌, ◌^◌, ◌<◌, ◌≤◌, List, [], ◌∷◌, ◌++◌, length, map, refl, sym, ap, ◌∙◌, subst, true, false, Bool, ◌||◌, arith, length-append, drop, append_assoc, codes, nat_lt, if◌then◌else◌, range_with_len, one-le-pow, pow-le-pow_right, drop-append_seam, length-take, map-map, and_from, or_from, or_left, or_right, is_among, Folder, File, has, Write, Replace, is_applicable, are_applicable, volume_name, volumes_before, volume_numbers, volume_size, five_digits, stem, volumes, CreateArgs, outputs_of, create_changes}
 use Rattle.std.specs.FinMap as map_of
 use Rattle.std.proofs.Math.Pow.{pow-lt}
 use Rattle.par2_spec.proofs.Basics.{AreDistinct, itself, other_name, not_first, distinct_some, put_in}
@@ -27,12 +27,7 @@ name_determines_first base x m y n e = grind (arith, same_rest, volume_name_is)
 
 -- the first exponents increase, by less than 2 ^ 16
 firsts_apart : (f i j : ℕ) → i < j → j < 17 → (f + volumes_before i) % 100000 ≡ (f + volumes_before j) % 100000 → ⊥
-firsts_apart f i j less high e =
-    let too_near : (f a b : ℕ) → a < b → b ≤ 65536 → 1 ≤ a → (f + (a - 1)) % 100000 ≡ (f + (b - 1)) % 100000 → ⊥ = λ f a b less top some e. omega (arith, less, top, some, e) in
-    let rises : 2 ^ i < 2 ^ j = pow-lt less in
-    let top : 2 ^ j ≤ 2 ^ 16 = pow-le-pow_right {n = 2} (omega arith) {i = j} {j = 16} (omega (arith, high)) in
-    let some : 1 ≤ 2 ^ i = one-le-pow i 2 (omega arith) in
-    too_near f (2 ^ i) (2 ^ j) rises top some e
+firsts_apart f i j less high e = grind (arith, pow-lt, pow-le-pow_right, one-le-pow)
 
 -- ---- the names of the outputs
 
@@ -82,7 +77,3 @@ puts_apply test folder (file ∷ files) d h =
 pub create_applies : (folder : Folder) (a : CreateArgs) → are_applicable folder (create_changes folder a) ≡ true
 create_applies folder a =
     puts_apply (has folder) folder (outputs_of folder a) (outputs_once a.base a.slice a.first a.count _) (λ q i. refl)
-
--- without recovery slices the index is the only output
-pub index_alone : (base : List ℕ) (s f : ℕ) (files : List File) → volumes base s f 0 files ≡ (base, flat_map packet (index_packets s (map (record_of s) (in_id_order files)))) ∷ []
-index_alone base s f files = unfold volumes in refl

@@ -1,6 +1,6 @@
 -- Slices that agree with the known ones and with the recovery slices of the kept exponents always exist.
 use Rattle.par2_spec.proofs.Basics.{by_either, killed_vector, kept-iff, counts, counts-iff, byte_at, word-lt, spelled, length-spelled, bytes-spelled, word_of, product_linear_right, product-lt, product_comm, product-one, product_assoc, product-zero, has_inverse, clash, all-map, all_unmap, all-passing, contained_later, of_contained, all-filter}
-use Rattle.par2_spec.proofs.Common.{◌≡◌, ℕ, zero, suc, ◌+◌, ◌*◌, ◌/◌, ◌%◌, ◌^◌, ◌<◌, ◌≤◌, List, [], ◌∷◌, length, map, drop, refl, sym, ap, ap₂, ◌∙◌, subst, arith, true, false, Bool, inl, inr, flat_map, slice_index, Option, Some, None, is_some, filter, ◌==◌, replicate, unwrap_or, w16, to_le_bytes, xor_assoc, xor_self, xor_zero_r, range_with_len, AllByRecursion, AllZip, list_any, Contains, ForSome, xor_lt, xor_comm, length-map, AllZip-long, false≢true, cases_eq, or_cases, eqb-true, word, coefficients, dot, combination, recovery, IsVector, Kills, IsRepairable, Agrees, AnotherAgrees, kept, AreBytes, kept_slices, lost, AreElements, drop-cons, mul, coefficient, TwoListsAgree, SomeSlicesAgree, bit_xor}
+use Rattle.par2_spec.proofs.Common.{◌≡◌, ℕ, zero, suc, ◌+◌, ◌*◌, ◌/◌, ◌%◌, ◌^◌, ◌<◌, ◌≤◌, List, [], ◌∷◌, length, map, drop, refl, sym, ap, ap₂, ◌∙◌, subst, arith, true, false, Bool, inl, inr, flat_map, slice_index, Option, Some, None, is_some, filter, ◌==◌, replicate, unwrap_or, w16, to_le_bytes, xor_assoc, xor_self, xor_zero_r, range_with_len, AllByRecursion, AllZip, list_any, Contains, ForSome, xor_lt, xor_comm, length-map, AllZip-long, false≢true, cases_eq, or_cases, eqb-true, word, coefficients, dot, combination, recovery, IsVector, Kills, IsRepairable, Agrees, AnotherAgrees, kept, AreBytes, kept_slices, lost, AreElements, drop-cons, mul, coefficient, TwoListsAgree, bit_xor, AreSurvivors}
 use Rattle.par2_spec.proofs.UniqueLaws.{sums, AreBuffers, IsZeroAtKnown, at_lost, lost_from, dot-at_lost, dot-sums, whole_row, dot-lt, coefficients_are, sums-elements, words_are, same_words}
 
 -- ---- a vector over the lost slices, among all slices
@@ -327,7 +327,11 @@ contained (x ∷ xs) q h =
 as_spelled : (s : ℕ) (buffers : List (List ℕ)) (e : ℕ) → recovery s buffers e ≡ spelled (λ p. dot (whole_row (length buffers) e) (map (word p) buffers)) 0 (s / 2)
 as_spelled s buffers e = unfold recovery combination in refl
 
-pub agreeing_exist : SomeSlicesAgree
+pub agreeing_exist :
+    (s m : ℕ) (known : List (Option (List ℕ))) (recovery : List (ℕ
+    × List ℕ)) (bytes : ℕ → List ℕ) → AreSurvivors s m known recovery bytes
+    → let kept = kept_slices (lost known) (map (λ r. r.0) recovery) recovery in
+    (slices : List (List ℕ)) × Agrees s known kept slices
 agreeing_exist s m known rs content survive =
     let es : List ℕ = map (λ r. r.0) rs in
     let goal : ℕ → ℕ → ℕ = λ p e. bit_xor (word p (content e)) (of_known e 0 known p) in

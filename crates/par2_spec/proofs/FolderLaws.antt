@@ -129,29 +129,6 @@ way_back_twice f (c ∷ cs) h =
     ∙ ap (λ d. d ∷ way_back end home) (inverse_twice f c)
     ∙ ap (λ l. c ∷ l) (way_back_twice (effect f c) cs rest)
 
--- ---- whether changes apply depends on the names only
-
-AreAlike : Folder → Folder → Type 0
-AreAlike f g = (q : List ℕ) → has f q ≡ has g q
-
-alike_after : (f g : Folder) (c : Change) → AreAlike f g → AreAlike (effect f c) (effect g c)
-alike_after f g c h = unfold AreAlike effect in grind (arith, written, gone)
-
-alike_applicable : (f g : Folder) (c : Change) → AreAlike f g → is_applicable f c ≡ is_applicable g c
-unfolding is_applicable AreAlike
-alike_applicable f g (Write n b) h = ap not (h n)
-alike_applicable f g (Replace n b) h = h n
-alike_applicable f g (Rename a b) h = λ i. h a i && not (h b i)
-alike_applicable f g (Remove n) h = h n
-
-alike_all : (f g : Folder) (cs : List Change) → AreAlike f g → are_applicable f cs ≡ are_applicable g cs
-unfolding are_applicable
-alike_all f g [] h = refl
-alike_all f g (c ∷ cs) h = λ i. alike_applicable f g c h i && alike_all (effect f c) (effect g c) cs (alike_after f g c h) i
-
-pub applicable_by_names : (f g : Folder) (cs : List Change) → ((q : List ℕ) → has f q ≡ has g q) → are_applicable f cs ≡ are_applicable g cs
-applicable_by_names f g cs h = unfold AreAlike in alike_all f g cs h
-
 -- ---- a folder in memory
 
 not_refused : (b : Bool) (x : ChangeFault) (o : Option ChangeFault) → fault_unless b x o ≡ None → IsTrue b × (o ≡ None)
@@ -168,10 +145,7 @@ pub inverse_taken : (s : FolderState) (c : Change) → change_refusal s c ≡ No
 unfolding change_refusal effect inverse
 inverse_taken s (Write n b) h = rw (here s.files n b)
 inverse_taken s (Replace n b) h = rw (here s.files n b)
-inverse_taken s (Rename a b) h =
-    let from = not_refused (has s.files a) NoSuchName _ h in
-    let to = not_refused (not (has s.files b)) NameTaken None from.1 in
-    rw (here (map_of.remove s.files a) b (bytes_of s.files a), left_behind s.files a b from.0 to.0)
+inverse_taken s (Rename a b) h = grind (arith, not_refused, here, left_behind)
 inverse_taken s (Remove n) h = rw (nowhere s.files n, has_room (s.vacant + 1) (omega arith))
 
 pub state_back : (s : FolderState) (c : Change) → change_refusal s c ≡ None → state_after (state_after s c) (inverse s.files c) ≡ s
@@ -213,9 +187,7 @@ taken_are_applicable s (c ∷ cs) h = and_from _ _ (taken_is_applicable s c (tak
 pub state_all_back : (s : FolderState) (cs : List Change) → IsTrue (takes_all s cs) → state_after_all (state_after_all s cs) (way_back s.files cs) ≡ s
 unfolding state_after_all way_back
 state_all_back s [] h = refl
-state_all_back s (c ∷ cs) h =
-    state_after_all-append (state_after_all (state_after s c) cs) (way_back (effect s.files c) cs) (inverse s.files c ∷ [])
-    ∙ ap (λ t. state_after t (inverse s.files c)) (state_all_back (state_after s c) cs (takes_rest s c cs h)) ∙ state_back s c (takes_first s c cs h)
+state_all_back s (c ∷ cs) h = grind (arith, state_after_all-append, takes_rest, state_back, takes_first, state_all_back (state_after s c) cs (takes_rest s c cs h))
 
 pub way_back_taken : (s : FolderState) (cs : List Change) → IsTrue (takes_all s cs) → IsTrue (takes_all (state_after_all s cs) (way_back s.files cs))
 unfolding state_after_all way_back

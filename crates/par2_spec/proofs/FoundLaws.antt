@@ -1,9 +1,14 @@
 -- The slices of intact and of matched targets are found.
-use Rattle.par2_spec.proofs.Common.{◌≡◌, ℕ, zero, suc, ◌+◌, ◌*◌, ◌<◌, ◌≤◌, List, [], ◌∷◌, ◌++◌, length, map, refl, sym, ap, ◌∙◌, subst, cond, true, false, Bool, not, ◌&&◌, arith, filter, flat_map, find, zip, Option, Some, None, is_some, is_none, option_to_list, ◌==◌, div_ceil, list_any, list_all, range_with_len, enumerate_from, AllByRecursion, bytes_eq, map-append, and_parts, or_cases, or_left, or_right, eqb-true, false≢true, not-false, div_ceil_times, mul-le-mul_right, add-mul, Pair, window, windows, is_match, found, slice_count, is_among, Folder, bytes_of, has, ParSet, Target, is_intact, is_incomplete, incomplete, intact_names, lost, matches, known, names_without_match, slices_by_target, lost_of_unmatched, IsFound}
+use Rattle.par2_spec.proofs.Common.{◌≡◌, ℕ, zero, suc, ◌+◌, ◌*◌, ◌<◌, ◌≤◌, List, [], ◌∷◌, ◌++◌, length, map, refl, sym, ap, ◌∙◌, subst, cond, true, false, Bool, not, ◌&&◌, arith, filter, flat_map, find, zip, Option, Some, None, is_some, is_none, option_to_list, ◌==◌, div_ceil, list_any, list_all, range_with_len, enumerate_from, AllByRecursion, bytes_eq, map-append, and_parts, or_cases, or_left, or_right, eqb-true, false≢true, not-false, div_ceil_times, mul-le-mul_right, add-mul, Pair, window, windows, is_match, found, slice_count, is_among, Folder, bytes_of, has, ParSet, Target, is_intact, is_incomplete, incomplete, intact_names, lost, matches, known, names_without_match}
 use Rattle.par2_spec.proofs.NamesLaws.{same_name, itself, clash, among-filter}
 use Rattle.par2_spec.proofs.ListsLaws.{any-map, any-flat_map, in_range_some, map-cond, all-passing}
 use Rattle.par2_spec.proofs.SearchLaws.{found_passes, pairs_with}
 use Rattle.par2_spec.proofs.TestLaws.{by_either, is_true, by_true}
+
+-- each slice of the target is found
+abbrev pub IsFound : Folder → ℕ → List (List ℕ) → Target → Type 0
+IsFound folder s searched t =
+    AllByRecursion (λ pair. is_some (found s (map (bytes_of folder) searched) pair) ≡ true) t.pairs
 
 is_some-find : {A : Type 0} (test : A → Bool) (xs : List A) → is_some (find test xs) ≡ list_any test xs
 is_some-find test [] = refl
@@ -149,6 +154,17 @@ found_by_target is_lost f (t ∷ ts) =
 lost_alike : (n : ℕ) (zs : List (Bool × Option (List ℕ))) → Reported zs → map (λ z. z.0) (filter (λ z. is_none z.1) (enumerate_from n (map (λ z. z.1) zs))) ≡ map (λ z. z.0) (filter (λ z. z.1.0 && is_none z.1.1) (enumerate_from n zs))
 lost_alike n [] h = refl
 lost_alike n ((b, o) ∷ zs) h = grind (arith, map-cond, false≢true, lost_alike (n + 1) zs h.1)
+
+-- for each slice whether its target is incomplete without a match, and the slice if it is found
+abbrev pub slices_by_target : Folder → ParSet → List (List ℕ) → List (Bool × Option (List ℕ))
+slices_by_target folder set searched =
+    flat_map (λ t. map (λ pair. (is_among (names_without_match (matches folder set searched)) t.name, found set.slice_size (map (bytes_of folder) searched) pair)) t.pairs)
+    set.targets
+
+-- the numbers of the slices that are not found and whose targets are incomplete without a match
+abbrev pub lost_of_unmatched : Folder → ParSet → List (List ℕ) → List ℕ
+lost_of_unmatched folder set searched =
+    map (λ z. z.0) (filter (λ z. z.1.0 && is_none z.1.1) (enumerate_from 0 (slices_by_target folder set searched)))
 
 -- the lost slices are those of the incomplete targets without a match that are not found
 pub lost_is : (folder : Folder) (set : ParSet) (names : List (List ℕ)) → 0 < set.slice_size → AreSized set.slice_size set.targets

@@ -62,9 +62,7 @@ no_file f q h = none_if (map_of.get f q) h
 none_named : (word : List ℕ) → is_name word ≡ false → (entries : List File) → AllByRecursion (λ file. IsTrue (is_name file.0) × (length file.1 < 2 ^ 64)) entries
     → is_among (map (λ file. file.0) entries) word ≡ false
 none_named word unnamed [] h = refl
-none_named word unnamed (file ∷ entries) h =
-    or_from (bytes_eq word file.0) (is_among (map (λ file. file.0) entries) word)
-    (false_from_ne_true _ (λ e. clash (ap is_name (same_name word file.0 e) ∙ h.0.0) unnamed)) (none_named word unnamed entries h.1)
+none_named word unnamed (file ∷ entries) h = grind (arith, or_from, false_from_ne_true, clash, same_name, none_named word unnamed entries h.1)
 
 -- a name that is not valid is no file's name
 pub no_names_file : (folder : Folder) (word : List ℕ) → IsFolder folder → is_name word ≡ false → has folder word ≡ false
@@ -75,9 +73,7 @@ no_names_file folder word kept unnamed = has_by_names folder word ∙ none_named
 pub get_laid : (files : List File) (f : Folder) (q : List ℕ) → is_among (map (λ file. file.0) files) q ≡ false → map_of.get (laid_over files f) q ≡ map_of.get f q
 unfolding laid_over
 get_laid [] f q h = refl
-get_laid (file ∷ files) f q h =
-    get_laid files (map_of.insert f file.0 file.1) q (or_parts (bytes_eq q file.0) _ h).1 ∙ get_put f file.0 file.1 q
-    ∙ ap (λ t. cond t (Some file.1) (map_of.get f q)) (or_parts (bytes_eq q file.0) _ h).0
+get_laid (file ∷ files) f q h = grind (arith, or_parts, get_put, get_laid files (map_of.insert f file.0 file.1) q (or_parts (bytes_eq q file.0) _ h).1)
 
 -- files with distinct names are in each folder that agrees on these names with the folder they were put into
 pub all_laid : (files : List File) (f g : Folder) → AreDistinct (map (λ file. file.0) files) → ((q : List ℕ) → is_among (map (λ file. file.0) files) q ≡ true → map_of.get g q ≡ map_of.get (laid_over files f) q) → AllByRecursion (λ file. map_of.get g file.0 ≡ Some file.1) files
@@ -92,10 +88,7 @@ all_laid (file ∷ files) f g d h = (
 pub has_laid : (files : List File) (f : Folder) (q : List ℕ) → has (laid_over files f) q ≡ (is_among (map (λ file. file.0) files) q || has f q)
 unfolding laid_over
 has_laid [] f q = refl
-has_laid (file ∷ files) f q =
-    let three : (a b c : Bool) → (a || (b || c)) ≡ ((b || a) || c) = λ a b c. grind arith in
-    has_laid files (map_of.insert f file.0 file.1) q ∙ ap (λ t. is_among (map (λ other. other.0) files) q || t) (has_put f file.0 file.1 q)
-    ∙ three (is_among (map (λ other. other.0) files) q) (bytes_eq q file.0) (has f q)
+has_laid (file ∷ files) f q = grind (arith, has_put, has_laid files (map_of.insert f file.0 file.1) q)
 
 pub laid_over-append : (files more : List File) (f : Folder) → laid_over (files ++ more) f ≡ laid_over more (laid_over files f)
 unfolding laid_over
@@ -127,11 +120,7 @@ without_put gone f n b = step (is_among gone n) refl
 pub without-laid_over : (gone : List (List ℕ)) (files : List File) (f : Folder) → without gone (laid_over files f) ≡ laid_over (filter (λ file. not (is_among gone file.0)) files) (without gone f)
 unfolding laid_over
 without-laid_over gone [] f = refl
-without-laid_over gone (file ∷ files) f =
-    let step : (t : Bool) (fs : List File) (g : Folder) → laid_over fs (cond t (map_of.insert g file.0 file.1) g) ≡ laid_over (cond t (file ∷ fs) fs) g = λ t fs g. grind arith in
-    without-laid_over gone files (map_of.insert f file.0 file.1)
-    ∙ ap (laid_over (filter (λ other. not (is_among gone other.0)) files)) (without_put gone f file.0 file.1)
-    ∙ step (not (is_among gone file.0)) (filter (λ other. not (is_among gone other.0)) files) (without gone f)
+without-laid_over gone (file ∷ files) f = grind (arith, without_put, without-laid_over gone files (map_of.insert f file.0 file.1))
 
 -- removing either of two lists of names gives the same folder if both name the same of its files
 pub same_without : (gone more : List (List ℕ)) (f : Folder) → ((q : List ℕ) → has f q ≡ true → is_among gone q ≡ is_among more q) → without gone f ≡ without more f
@@ -182,9 +171,7 @@ rest_moves f m moves c =
 pub renames_apply : (f : Folder) (moves : List Move) → CanMove f moves → are_applicable f (renames moves) ≡ true
 unfolding are_applicable is_applicable
 renames_apply f [] c = refl
-renames_apply f (m ∷ moves) c =
-    and_from _ _ (and_from _ _ (c.there m.0 (or_left _ _ (itself m.0))) (not_from_false _ (c.free m.1 (or_left _ _ (itself m.1)))))
-    (renames_apply (effect f (Rename m.0 m.1)) moves (rest_moves f m moves c))
+renames_apply f (m ∷ moves) c = grind (arith, and_from, or_left, itself, not_from_false, rest_moves, renames_apply (effect f (Rename m.0 m.1)) moves (rest_moves f m moves c))
 
 abbrev pub arrived : Folder → List Move → List File
 arrived f moves = map (λ m. (m.1, bytes_of f m.0)) moves

@@ -1,5 +1,5 @@
 -- The files sorted by File ID, and only one list of them is strictly increasing.
-use Rattle.par2_spec.proofs.Common.{◌≡◌, ◌≢◌, ℕ, zero, suc, ◌+◌, ◌<◌, ◌≤◌, List, [], ◌∷◌, length, map, refl, sym, ap₂, subst, true, false, Bool, eqb, arith, nat_le, if◌then◌else◌, IsPermutation, slice_index, w128, from_le_bytes, AllByRecursion, IsDistinct, IsStrictlyIncreasing, IsNonDecreasingBy, leb-true, leb-false, eqb-true, eq-eqb, false_from_ne_true, All-from_recursion, recursion_from_All, IsDistinct-IsPermutation, Folder, File, bytes_of, FileRecord, id_number, insert_by_id, record_of, in_id_order, files_of, OnlyOneOrder}
+use Rattle.par2_spec.proofs.Common.{◌≡◌, ◌≢◌, ℕ, suc, ◌+◌, ◌<◌, ◌≤◌, List, [], ◌∷◌, length, map, refl, sym, ap₂, subst, true, false, Bool, eqb, arith, nat_le, if◌then◌else◌, IsPermutation, slice_index, w128, from_le_bytes, AllByRecursion, IsDistinct, IsStrictlyIncreasing, leb-true, leb-false, eqb-true, eq-eqb, false_from_ne_true, All-from_recursion, recursion_from_All, IsDistinct-IsPermutation, Folder, File, bytes_of, FileRecord, id_number, insert_by_id, record_of, in_id_order, files_of}
 use Rattle.std.proofs.lemmas.List.Sorted.{All-permutation, IsPermutation-sym, IsPermutation-refl, IsPermutation-trans, IsPermutation-cons, IsPermutation-swap, IsPermutation-map}
 use Rattle.par2_spec.proofs.Basics.{clash, all-map, all-both, all_weaker, same_tests}
 
@@ -60,13 +60,6 @@ rises-climbs : {A : Type 0} (n : A → ℕ) (xs : List A) → Climbs n xs → Ar
 rises-climbs n [] h k = tt
 rises-climbs n (x ∷ xs) h k = (all-both (λ y. n x ≤ n y) (λ y. n y ≡ n x → ⊥) (λ y. n x < n y) (λ y l apart. let other : n y ≢ n x = apart in omega (arith, l, other)) xs h.0 k.0, rises-climbs n xs h.1 k.1)
 
-no_fall : {A : Type 0} (n : A → ℕ) (xs : List A) → Climbs n xs → IsNonDecreasingBy n xs
-no_fall n [] h i j d le within = absurd (omega (arith, within))
-no_fall n (x ∷ xs) h zero zero d le within = omega arith
-no_fall n (x ∷ xs) h (suc i) zero d le within = absurd (omega (arith, le))
-no_fall n (x ∷ xs) h zero (suc j) d le within = All-from_recursion (λ y. n x ≤ n y) xs h.0 j d (omega (arith, within))
-no_fall n (x ∷ xs) h (suc i) (suc j) d le within = no_fall n xs h.1 i j d (omega (arith, le)) (omega (arith, within))
-
 pub moved-all : {A : Type 0} (P : A → Type 0) (xs ys : List A) → IsPermutation xs ys → AllByRecursion P xs → AllByRecursion P ys
 moved-all P xs ys m h = recursion_from_All P ys (All-permutation P xs ys m (All-from_recursion P xs h))
 
@@ -102,9 +95,6 @@ unfolding in_id_order
 climbs-ordered [] = tt
 climbs-ordered (file ∷ files) = climbs-inserted file (in_id_order files) (climbs-ordered files)
 
-pub no_fall-ordered : (files : List File) → IsNonDecreasingBy id_number (in_id_order files)
-no_fall-ordered files = no_fall id_number (in_id_order files) (climbs-ordered files)
-
 -- ---- the records of the files, in order
 
 -- the File ID in a record as a number
@@ -131,7 +121,11 @@ climbs-records : (s : ℕ) (files : List File) → Climbs id_number files → Cl
 climbs-records s files h = unfold record_of in climbs-map number_in (record_of s) files h
 
 -- records of these files with increasing File IDs are those of the files in order
-pub rising_records : OnlyOneOrder
+pub rising_records :
+    (s : ℕ) (files : List File) (records : List FileRecord)
+    → IsPermutation (map (record_of s) files) records
+    → IsStrictlyIncreasing (map (λ file. from_le_bytes w128 file.id) records)
+    → records ≡ map (record_of s) (in_id_order files)
 rising_records s files records moved up =
     let ordered : List FileRecord = map (record_of s) (in_id_order files) in
     let there : IsPermutation records ordered =

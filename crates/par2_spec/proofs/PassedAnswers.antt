@@ -1,5 +1,5 @@
 -- Results that are passed on.
-use Rattle.par2_spec.proofs.Common.{◌≡◌, ◌⊎◌, ◌∙◌, inr, sym, ap, subst, none-some, same_Some, Option, IfOk, IfErr, IsErrOf, OnOk, OnErr, None, Some, Fault, Memory}
+use Rattle.par2_spec.proofs.Common.{◌≡◌, ◌⊎◌, ◌∙◌, sym, ap, subst, none-some, same_Some, Option, IfOk, IfErr, IsErrOf, OnOk, None, Some, Fault, Memory}
 use Rattle.std.proofs.Common.{Result, Ok, Err}
 use Rattle.par2_spec.proofs.TestLaws.{err_again}
 use Rattle.std.proofs.Math.Logic.{⊎_map}
@@ -27,7 +27,3 @@ err_passed {X} {Y} {E} r fault other p h = p.1 ∙ ap Err (p.2 ∙ same h)
 pub passed : {A E : Type 0} (P : Type 0) (R : A → Type 0) (r : Result A E) (given : A) → IfOk r (λ x. x ≡ given) → OnOk r P → (P → R given) → IfOk r R
 passed P R (Ok x) given same holds f = subst R (sym same) (f holds)
 passed P R (Err e) given same holds f = tt
-
-pub not_passed : {A : Type 0} (P : Type 0) (r : Result A Fault) (cause : Option Fault) (fault : Fault) → IfErr r (λ y. y ≡ fault) → OnErr r (¬ P) → (¬ P → cause ≡ Some fault) → IfErr r (λ y. (y ≡ Memory) ⊎ (cause ≡ Some y))
-not_passed P (Ok x) cause fault same fails f = tt
-not_passed P (Err e) cause fault same fails f = inr (f fails ∙ ap Some (sym same))

@@ -1,6 +1,6 @@
 -- Values, products and quotients of polynomials.
 use Rattle.par2_spec.proofs.Basics.{by_either, xor_middle, product_linear_left, product_linear_right, product_assoc, product_comm, product-one, product-lt, product-zero, zero-product, no_zero_divisor, has_inverse, xor_same, xor_off, all_weaker, all-both, of_contained, contained_first, contained_later, all_from, all_at}
-use Rattle.par2_spec.proofs.Common.{ℕ, suc, ◌-◌, ◌^◌, ◌<◌, ◌≡◌, refl, sym, ap, ap₂, ◌∙◌, subst, arith, List, [], ◌∷◌, length, map, ◌≢◌, false, get_or, drop, xor_comm, xor_lt, length-map, Contains-get_or, eqb-false, cases_eq, xor_assoc, xor_zero_r, xor_self, xor_zero_l, AllByRecursion, Contains, IsDistinct, mul, IsVector, times, times_root, AreElements, ArePoints, Interpolates, value, plus, with_roots, quotient, bit_xor, nat_eq}
+use Rattle.par2_spec.proofs.Common.{ℕ, suc, ◌-◌, ◌^◌, ◌<◌, ◌≡◌, refl, sym, ap, ap₂, ◌∙◌, subst, arith, List, [], ◌∷◌, length, map, ◌≢◌, false, get_or, xor_comm, xor_lt, length-map, Contains-get_or, eqb-false, cases_eq, xor_assoc, xor_zero_r, xor_self, xor_zero_l, AllByRecursion, Contains, IsDistinct, mul, IsVector, times, times_root, AreElements, ArePoints, value, plus, with_roots, quotient, bit_xor, nat_eq}
 
 -- ---- elements and lengths
 
@@ -33,11 +33,6 @@ pub length-plus : (p q : List ℕ) → length q ≡ suc (length p) → length (p
 unfolding plus
 length-plus (a ∷ p) (b ∷ q) e = ap suc (length-plus p q (omega (arith, e)))
 length-plus p q e = grind arith
-
-pub length-plus_same : (p q : List ℕ) → length p ≡ length q → length (plus p q) ≡ length p
-unfolding plus
-length-plus_same (a ∷ p) (b ∷ q) e = ap suc (length-plus_same p q (omega (arith, e)))
-length-plus_same p q e = grind arith
 
 pub length-times_root : (c : ℕ) (p : List ℕ) → length (times_root c p) ≡ suc (length p)
 length-times_root c p = grind (arith, length-plus, length-map)
@@ -180,23 +175,6 @@ only_zero (c ∷ points) (a ∷ p) are is h =
 
 -- ---- interpolation
 
-same_if_zero : (p q : List ℕ) → length p ≡ length q → AreZero (plus p q) → p ≡ q
-unfolding plus
-same_if_zero [] [] e h = refl
-same_if_zero (a ∷ p) (b ∷ q) e h = ap₂ (λ x xs. x ∷ xs) (xor_same a b h.0) (same_if_zero p q (omega (arith, e)) h.1)
-same_if_zero p q e h = absurd (omega (arith, e))
-
-same_values : (p q points values : List ℕ) → map (value p) points ≡ values → map (value q) points ≡ values → AllByRecursion (λ z. value (plus p q) z ≡ 0) points
-same_values p q (z ∷ points) (y ∷ values) e f = grind (arith, value_plus, xor_self, same_values p q points values (ap (drop 1) e) (ap (drop 1) f))
-same_values p q points values e f = grind arith
-
-pub one_polynomial : (points values p q : List ℕ) → ArePoints points → Interpolates points values p → Interpolates points values q → p ≡ q
-one_polynomial points values p q are first second =
-    let long : length p ≡ length q = first.vector.0 ∙ sym second.vector.0 in
-    same_if_zero p q long (only_zero points (plus p q) are
-    (length-plus_same p q long ∙ first.vector.0, plus_elements p q first.vector.1 second.vector.1)
-    (same_values p q points values first.at_points second.at_points))
-
 same_at : (p q points : List ℕ) → AllByRecursion (λ z. value q z ≡ 0) points → map (value (plus p q)) points ≡ map (value p) points
 same_at p q [] h = refl
 same_at p q (z ∷ points) h = grind (arith, value_plus, xor_zero_r, same_at p q points h.1)
@@ -213,6 +191,11 @@ reached a y w ha hy hw other =
       ap (bit_xor a) (product_assoc d b w hd inverse.1.0 hw ∙ ap (mul d) (product_comm b w inverse.1.0 hw ∙ inverse.1.1) ∙ product-one d hd)
           ∙ xor_comm a d ∙ xor_off y a,
     )
+
+-- the interpolating polynomial (Lagrange): it has as many coefficients as there are points, and these values at them
+pub record Interpolates (points values p : List ℕ) : Type 0 where
+  pub vector : IsVector (length points) p
+  pub at_points : map (value p) points ≡ values
 
 -- a multiple of the polynomial with the points as roots is added, so that the value at one more point is y
 pub some_polynomial : (points values : List ℕ) → ArePoints points → IsVector (length points) values → (p : List ℕ) × Interpolates points values p

@@ -149,20 +149,7 @@ known_as known slices h = grind arith
 pub agrees-iff : (s : ℕ) (known : List (Option (List ℕ))) (recovered : List (ℕ × List ℕ)) (slices : List (List ℕ))
     → AllByRecursion (λ content. length content ≡ s) slices → AllByRecursion (λ content. AllByRecursion (λ b. b < 256) content) slices
     → IsTrue (agrees s known recovered slices) ↔ Agrees s known recovered slices
-agrees-iff s known recovered slices sizes bytes = unfold agrees in (
-  λ h. let r = and_parts (length slices == length known && list_all is_as_known (zip known slices)) _ h in
-      let q = and_parts (length slices == length known) _ r.0 in
-      record {
-        sizes = sizes;
-        bytes = bytes;
-        as_known = as_known known slices (eqb-true (length slices) (length known) q.0) q.1;
-        as_recovered = all_weaker (λ (r : ℕ × List ℕ). bytes_eq (recovery s slices r.0) r.1 ≡ true) (λ (r : ℕ × List ℕ). recovery s slices r.0 ≡ r.1) (λ r e. same_name (recovery s slices r.0) r.1 e) recovered
-            (all_from_test (λ (r : ℕ × List ℕ). bytes_eq (recovery s slices r.0) r.1) recovered r.1);
-      },
-  λ a. and_from _ _ (and_from _ _ (eq-eqb (length slices) (length known) (AllZip-long (λ slice content. ForSome slice (λ found. content ≡ found)) known slices a.as_known)) (known_as known slices a.as_known))
-      (test_from_all (λ (r : ℕ × List ℕ). bytes_eq (recovery s slices r.0) r.1) recovered
-      (all_weaker (λ (r : ℕ × List ℕ). recovery s slices r.0 ≡ r.1) (λ (r : ℕ × List ℕ). bytes_eq (recovery s slices r.0) r.1 ≡ true) (λ r e. subst (λ z. bytes_eq (recovery s slices r.0) z ≡ true) e (itself (recovery s slices r.0))) recovered a.as_recovered)),
-)
+agrees-iff s known recovered slices sizes bytes = unfold agrees in grind (arith, and_parts, as_known, eqb-true, all_weaker, same_name, all_from_test, and_from, eq-eqb, AllZip-long, known_as, test_from_all, itself)
 
 -- ---- the rebuilt slices
 

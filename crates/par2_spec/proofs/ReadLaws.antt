@@ -1,7 +1,7 @@
 -- Properties of sets that can be read, and of the searched names.
-use Rattle.par2_spec.proofs.Common.{◌≡◌, ℕ, suc, ◌≤◌, List, [], ◌∷◌, ◌++◌, length, map, refl, sym, ap, ◌∙◌, subst, cond, true, false, Bool, not, ◌&&◌, ◌||◌, arith, length-append, ◌<◌, ◌+◌, ◌^◌, ◌-◌, ◌*◌, take, drop, length-drop, ◌%◌, min, nat_lt, filter, filter_map, flat_map, find, sum_by, nat_le, Option, Some, unwrap_or, option_map, option_and_then, Result, Ok, Err, ok_or, ◌==◌, if◌then◌else◌, zip, list_all, AllByRecursion, Contains, concat, entries-insert, len-entries, len-empty, nat_cmp-IsAntisymmetric, nat_cmp_total, put, by_order, nat_cmp, Ordering, zero-div, zero-mod, bytes_eq, length-map, nil_from_length, length-take-le, sum_by-cons, list_all-map, recursion_from_All, All-contains_itself, and_parts, and_from, or_cases, or_left, or_right, false_from_ne_true, eqb-true, leb-true, ltb-true, false≢true, Fault, NoMain, NoDescription, NoChecksums, BadSet, Pair, slice_count, is_name, is_among, distinct, Packet, accepted, MainBody, DescBody, RecoveryBody, read_recovery, Folder, has, bytes_of, ParSet, Target, ◌>>=◌, unless, all_some, is_slice_size, packets_with, main_of, description_of, pairs_of, target_of, are_in_profile, recovery_of, other_par_names, IsSound, read_set, set_of, candidates, known, lost, AreFew, FitsRepair, lost_of_unmatched, cut_into, div_ceil, div_ceil_times, FilesHaveTheirSize}
+use Rattle.par2_spec.proofs.Common.{◌≡◌, ℕ, suc, ◌≤◌, List, [], ◌∷◌, ◌++◌, length, map, refl, sym, ap, ◌∙◌, subst, cond, true, Bool, not, ◌&&◌, ◌||◌, arith, length-append, ◌<◌, ◌+◌, ◌^◌, ◌-◌, ◌*◌, take, drop, length-drop, ◌%◌, min, nat_lt, filter, filter_map, flat_map, find, sum_by, nat_le, Option, Some, unwrap_or, option_map, option_and_then, Result, Ok, ok_or, ◌==◌, if◌then◌else◌, zip, list_all, AllByRecursion, Contains, concat, entries-insert, len-entries, len-empty, nat_cmp-IsAntisymmetric, nat_cmp_total, put, by_order, nat_cmp, Ordering, zero-div, zero-mod, bytes_eq, length-map, nil_from_length, length-take-le, sum_by-cons, list_all-map, recursion_from_All, All-contains_itself, and_parts, and_from, or_cases, or_left, or_right, false_from_ne_true, eqb-true, leb-true, ltb-true, false≢true, Fault, NoMain, NoDescription, NoChecksums, BadSet, Pair, slice_count, is_name, is_among, distinct, Packet, accepted, MainBody, DescBody, RecoveryBody, read_recovery, Folder, has, bytes_of, ParSet, Target, unless, all_some, is_slice_size, packets_with, main_of, description_of, pairs_of, target_of, are_in_profile, recovery_of, other_par_names, IsSound, read_set, set_of, candidates, known, lost, AreFew, cut_into, div_ceil, div_ceil_times, FilesHaveTheirSize, ◌>>=◌, IsDistinct, IsTrue, target_names}
 use Rattle.par2_spec.proofs.NamesLaws.{same_name, itself, clash, among-filter, among-append, AreDistinct, std_from_distinct}
-use Rattle.par2_spec.proofs.FoundLaws.{AreSized, lost_is}
+use Rattle.par2_spec.proofs.FoundLaws.{AreSized, lost_is, lost_of_unmatched}
 use Rattle.par2_spec.proofs.ListsLaws.{found_one, all-take, all-drop}
 use Rattle.std.specs.FinMap as map_of
 use Rattle.par2_spec.proofs.TestLaws.{by_either}
@@ -46,10 +46,6 @@ distinct_by_length (x ∷ xs) e =
     )
 
 -- ---- a set that can be read
-
-abbrev pub came_out : {A : Type 0} → Result A Fault → Bool
-came_out (Ok a) = true
-came_out (Err e) = false
 
 took : {A B : Type 0} (r : Result A Fault) (f : A → Result B Fault) (b : B) → (r >>= f) ≡ Ok b → (a : A) × (r ≡ Ok a) × (f a ≡ Ok b)
 took r f b h = grind arith
@@ -231,6 +227,12 @@ present_searched folder set extras q i h = candidates_are folder set extras q �
 
 pub sound_of : (folder : Folder) (base : List ℕ) (set : ParSet) → set_of folder base ≡ Ok set → IsSound set
 sound_of folder base set h = unfold set_of in sound_set (bytes_of folder base) (map (bytes_of folder) (other_par_names folder base)) set h
+
+-- the premises of a repair on the folder, the set and the searched names
+pub record FitsRepair (folder : Folder) (set : ParSet) (searched : List (List ℕ)) : Type 0 where
+  pub names_once : IsDistinct bytes_eq (target_names set)
+  pub all_there : IsTrue (list_all (has folder) searched)
+  pub few : AreFew folder set
 
 pub fits_of : (folder : Folder) (base : List ℕ) (set : ParSet) (extras : List (List ℕ)) → set_of folder base ≡ Ok set → list_all (has folder) extras ≡ true → AreFew folder set → FitsRepair folder set (candidates folder set extras)
 fits_of folder base set extras h there few = record {

@@ -1,5 +1,5 @@
 -- If a repair is refused as not repairable, other slices also agree.
-use Rattle.par2_spec.proofs.Common.{◌≡◌, ℕ, ◌≤◌, List, [], ◌∷◌, subst, true, Bool, arith, Option, Some, Ok, both_ways, not-true, Fault, NameTooLong, NotRepairable, RepairFailed, first_fault, fault_where, Folder, all_slices, IsRepairable, ParSet, set_of, is_slice_size, candidates, known, lost, survivors, Repair, RefusedRepairHasAChoice, repair_refusal, refusal}
+use Rattle.par2_spec.proofs.Common.{◌≡◌, ℕ, ◌≤◌, List, [], ◌∷◌, subst, true, Bool, arith, Option, Some, Ok, both_ways, not-true, Fault, NameTooLong, NotRepairable, RepairFailed, first_fault, fault_where, Folder, all_slices, IsRepairable, ParSet, set_of, is_slice_size, candidates, known, lost, survivors, Repair, repair_refusal, refusal, File, MadeFrom, NoCollision, AllByRecursion, AreBytes, AnotherAgrees}
 use Rattle.std.specs.FinMap as map_of
 use Rattle.par2_spec.proofs.Basics.{sound_of, size_parts, repairable-iff}
 use Rattle.par2_spec.proofs.ExistLaws.{another_agrees}
@@ -25,7 +25,13 @@ pub size_two : (s : ℕ) → is_slice_size s ≡ true → 2 ≤ s
 size_two s h = let least : 4 ≤ s = (size_parts s h).1 in omega (arith, least)
 
 -- slices other than the files' also agree with everything that is found
-pub another_choice : RefusedRepairHasAChoice
+pub another_choice :
+    (folder : Folder) (base : List ℕ) (extras : List (List ℕ)) (purge : Bool)
+    (files : List File) (s missing rank : ℕ) (m : MadeFrom folder base files s)
+    → let searched = candidates folder m.set extras in let slices = all_slices s files in
+    NoCollision folder searched s slices → AllByRecursion (λ file. AreBytes file.1) files
+    → refusal folder (Repair base extras purge) ≡ Some (NotRepairable missing rank)
+    → AnotherAgrees s (known folder m.set searched) (map_of.entries m.set.recovery) slices
 another_choice folder base extras purge files s m r made reported bytes refused =
     let searched = candidates folder made.set extras in
     another_agrees s (known folder made.set searched) (map_of.entries made.set.recovery) (all_slices s files)

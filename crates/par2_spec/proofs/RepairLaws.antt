@@ -1,5 +1,6 @@
 -- The changes of a repair lead to its folder.
-use Rattle.par2_spec.proofs.Common.{◌≡◌, ℕ, List, [], ◌∷◌, ◌++◌, length, map, inl, inr, refl, sym, ap, ◌∙◌, subst, cond, true, false, Bool, not, ◌&&◌, ◌||◌, take, drop, arith, filter, filter_map, zip, Option, Some, None, Ok, option_map, is_some, is_none, unwrap_or, if◌then◌else◌, concat, list_all, AllByRecursion, ForSome, bytes_eq, map-append, map-id, map-map, and_parts, and_right, or_parts, or_cases, or_left, or_right, or_from, and_from, false_from_ne_true, cases_Bool, not_from_false, false≢true, not-true, and-false, is_among, Folder, has, bytes_of, names, File, without, laid_over, Write, Rename, Remove, effects, are_applicable, ParSet, Target, set_of, target_names, candidates, known, incomplete, incomplete_names, is_incomplete, intact_names, matching, matches, aside, put_aside, files_of_slices, cut_into, rebuilt, matched_files, names_without_match, aside_files, is_par_file, par_files, after_repair_and_purge, FitsRepair, HoldsRepaired, AreFew, taken_for, rebuilt_targets, after_repair, now_at, purge_changes, repair_changes, repair_removals}
+use Rattle.par2_spec.proofs.ReadLaws.{FitsRepair}
+use Rattle.par2_spec.proofs.Common.{◌≡◌, ℕ, List, [], ◌∷◌, ◌++◌, length, map, inl, inr, refl, sym, ap, ◌∙◌, subst, cond, true, false, Bool, not, ◌&&◌, ◌||◌, take, drop, arith, filter, filter_map, zip, Option, Some, None, Ok, option_map, is_some, is_none, unwrap_or, if◌then◌else◌, concat, list_all, AllByRecursion, ForSome, bytes_eq, map-append, map-id, map-map, and_parts, and_right, or_parts, or_cases, or_left, or_right, or_from, and_from, false_from_ne_true, cases_Bool, not_from_false, false≢true, not-true, and-false, is_among, Folder, has, bytes_of, names, File, without, laid_over, Write, Rename, Remove, effects, are_applicable, ParSet, Target, set_of, target_names, candidates, known, incomplete, incomplete_names, is_incomplete, intact_names, matching, matches, aside, put_aside, files_of_slices, cut_into, rebuilt, matched_files, names_without_match, aside_files, is_par_file, par_files, after_repair_and_purge, HoldsRepaired, AreFew, taken_for, rebuilt_targets, after_repair, now_at, purge_changes, repair_changes, repair_removals}
 use Rattle.std.specs.FinMap as map_of
 use Rattle.par2_spec.proofs.Basics.{effects-append, are_applicable-append, removals_lead, same_name, itself, clash, AreDistinct, among-filter, among-append, among_some, apart_by_test, distinct-map, distinct-filter, distinct_some, image_of, image_in, distinct-append, distinct_from_std, each_there, candidates_there, sound_of, names_of_pairs, taken_was_free, taken_once, by_either, same_tests, none_if, some_if, filter-map, map-cond}
 use Rattle.par2_spec.proofs.MovesLaws.{Move, CanMove, renames, sources, goals, arrived, renames_apply, renames_lead, writes_apply, writes_lead, get_put, get_laid, get_without, has_laid, has_without, has_by_names, laid_over-append, without-laid_over, without_without, same_without, removals_apply, names_once, all_laid}

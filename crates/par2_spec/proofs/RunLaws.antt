@@ -1,11 +1,11 @@
 -- Close exponents are kept, and a run with an exponent for each lost slice determines the lost slices.
-use Rattle.par2_spec.proofs.Common.{◌≡◌, ◌≢◌, ℕ, zero, suc, ◌+◌, ◌-◌, ◌^◌, ◌<◌, ◌≤◌, List, [], ◌∷◌, length, map, take, get_or, refl, sym, ap, ap₂, ◌∙◌, subst, cond, true, Bool, eqb, inl, inr, arith, filter, AllByRecursion, Contains, range_with_len, IsStrictlyIncreasing, Decides-eqb, cases_lt, eq-eqb, ne_eqb, length-map, get_or-map, get_or-take, get_or_default, Contains-get_or, length-range_with_len, get_or-range_with_len, AllPairs-from_increasing, IsDistinct-from_AllPairs, mul, constant, pow, coefficient, coefficients, dot, kept, rank, smaller, is_independent, IsVector, Kills, IsKept, IsRepairable, AreElements, ArePoints, Interpolates, value, bit_xor}
+use Rattle.par2_spec.proofs.Common.{◌≡◌, ◌≢◌, ℕ, zero, suc, ◌+◌, ◌-◌, ◌^◌, ◌<◌, ◌≤◌, List, [], ◌∷◌, length, map, get_or, refl, sym, ap, ap₂, ◌∙◌, subst, cond, true, Bool, eqb, arith, filter, AllByRecursion, Contains, range_with_len, IsStrictlyIncreasing, Decides-eqb, cases_lt, eq-eqb, ne_eqb, length-map, get_or-map, Contains-get_or, length-range_with_len, get_or-range_with_len, AllPairs-from_increasing, IsDistinct-from_AllPairs, mul, constant, pow, coefficient, coefficients, dot, kept, rank, smaller, is_independent, IsVector, Kills, IsKept, IsRepairable, AreElements, ArePoints, value, bit_xor}
 use Rattle.par2_spec.proofs.FieldConstants.{range_rises}
 use Rattle.par2_spec.specs.Runs.{AreSlices, AreClose, HasRun}
 use Rattle.par2_spec.proofs.Basics.{xor_middle, product_linear_left, product_linear_right, product_assoc, product_comm, product-one, product-zero, zero-product, no_zero_divisor, power-lt, constant-lt, constant-nonzero, constant-injective, dot_sum, field_sum_one, product_at, all-each, all_from, all_get, of_contained, independent-iff, by_either, by_test}
 use Rattle.par2_spec.proofs.UniqueLaws.{all_from_contains}
 use Rattle.par2_spec.proofs.FullRank.{full-iff}
-use Rattle.par2_spec.proofs.PolynomialLaws.{value-lt, some_polynomial}
+use Rattle.par2_spec.proofs.PolynomialLaws.{Interpolates, value-lt, some_polynomial}
 
 -- ---- rows given by a function
 
@@ -200,46 +200,9 @@ near_passes : (ks exponents : List ℕ) (e : ℕ) → AreSlices ks → e < e + l
     → is_independent (length ks) (map (coefficients ks) (smaller e exponents)) (coefficients ks e) ≡ true
 near_passes ks exponents e are some near = (independent-iff ks exponents e).1 (near_kept ks exponents e are some near)
 
-filter_passing : (p : ℕ → Bool) (n : ℕ) (xs : List ℕ) → AllByRecursion (λ x. p x ≡ true) (take n xs) → take n (filter p xs) ≡ take n xs
-filter_passing p (suc n) (x ∷ xs) h = ap (λ b. take (suc n) (cond b (x ∷ filter p xs) (filter p xs))) h.0 ∙ ap (λ ys. x ∷ ys) (filter_passing p n xs h.1)
-filter_passing p n xs h = refl
-
 filter_all : (p : ℕ → Bool) (xs : List ℕ) → AllByRecursion (λ x. p x ≡ true) xs → filter p xs ≡ xs
 filter_all p [] h = refl
 filter_all p (x ∷ xs) h = ap (λ b. cond b (x ∷ filter p xs) (filter p xs)) h.0 ∙ ap (λ ys. x ∷ ys) (filter_all p xs h.1)
 
 pub close_kept : (ks exponents : List ℕ) → AreSlices ks → AreClose (length ks) exponents → kept ks exponents ≡ exponents
 close_kept ks exponents are close = search (arith, filter_all, all_from_contains, near_passes)
-
--- a position in the first n items is below n
-place-lt : (i n : ℕ) (xs : List ℕ) → i < length (take n xs) → (i < n) × (i < length xs)
-place-lt i zero xs h = absurd (omega (arith, h))
-place-lt i (suc n) [] h = absurd (omega (arith, h))
-place-lt zero (suc n) (x ∷ xs) h = (omega arith, omega arith)
-place-lt (suc i) (suc n) (x ∷ xs) h = let r = place-lt i n xs (omega (arith, h)) in (omega (arith, r.0), omega (arith, r.1))
-
-lt-place : (j n : ℕ) (xs : List ℕ) → j < n → j < length xs → j < length (take n xs)
-lt-place j zero xs h k = absurd (omega (arith, h))
-lt-place j (suc n) [] h k = absurd (omega (arith, k))
-lt-place zero (suc n) (x ∷ xs) h k = omega arith
-lt-place (suc j) (suc n) (x ∷ xs) h k = let r = lt-place j n xs (omega (arith, h)) (omega (arith, k)) in omega (arith, r)
-
--- a smaller exponent comes earlier
-stands_before : (exponents : List ℕ) (n e other : ℕ) → IsStrictlyIncreasing exponents → Contains (take n exponents) e → Contains exponents other → other < e → Contains (take n exponents) other
-stands_before exponents n e other rise first second lower =
-    let i = first.0 in
-    let j = second.0 in
-    let at = place-lt i n exponents first.1 in
-    elim (cases_lt j n) [
-      | inl low ↦
-          let place = lt-place j n exponents low second.1 in
-          subst (Contains (take n exponents)) (get_or-take n exponents j other low ∙ second.2) (Contains-get_or (take n exponents) j other place)
-      | inr high ↦
-          let more : get_or exponents i e < get_or exponents j e = AllPairs-from_increasing exponents rise i j e (omega (arith, at.0, high)) second.1 in
-          let is_e = sym (get_or-take n exponents i e at.0) ∙ first.2 in
-          let is_other = get_or_default exponents j e other second.1 ∙ second.2 in
-          absurd (omega (arith, more, is_e, is_other, lower))
-    ]
-
-pub first_kept : (ks exponents : List ℕ) (n : ℕ) → AreSlices ks → IsStrictlyIncreasing exponents → AreClose (length ks) (take n exponents) → take n (kept ks exponents) ≡ take n exponents
-first_kept ks exponents n are rise close = search (arith, filter_passing, all_from_contains, near_passes, stands_before)

@@ -1,7 +1,7 @@
 -- The matches of a set.
 use Rattle.par2_spec.proofs.TestLaws.{by_either}
-use Rattle.par2_spec.proofs.Common.{◌≡◌, ◌&&◌, ℕ, List, [], ◌∷◌, map, refl, sym, ap, ◌∙◌, subst, cond, true, false, Bool, not, ◌||◌, ◌++◌, arith, filter, filter_map, find, zip, Option, Some, None, option_to_list, is_some, cons_option, bytes_eq, and_parts, or_cases, or_left, or_right, false_from_ne_true, false≢true, same_Some, and-true, and_assoc, is_among, Folder, bytes_of, ParSet, Target, is_intact, matched, incomplete, intact_names, AreFirstMatches, matches}
-use Rattle.par2_spec.proofs.NamesLaws.{same_name, itself, clash, AreDistinct, among-filter, among-append}
+use Rattle.par2_spec.proofs.Common.{◌≡◌, ℕ, List, [], ◌∷◌, map, refl, sym, ap, ◌∙◌, subst, cond, true, false, Bool, not, ◌||◌, arith, filter, filter_map, find, zip, Option, Some, None, option_to_list, is_some, cons_option, bytes_eq, and_parts, or_cases, or_left, or_right, false_from_ne_true, false≢true, same_Some, is_among, Folder, bytes_of, ParSet, Target, is_intact, matched, incomplete, matches}
+use Rattle.par2_spec.proofs.NamesLaws.{same_name, itself, clash, AreDistinct, among-filter}
 
 -- the targets with their matches, and the matches alone
 abbrev pub pairs_with : Folder → ℕ → List (List ℕ) → List Target → List (Target × Option (List ℕ))
@@ -21,11 +21,7 @@ names_of_pairs folder s free (t ∷ ts) =
 -- a name that is found is one of the names, and passes
 pub found_passes : (p : List ℕ → Bool) (names : List (List ℕ)) (q : List ℕ) → find p names ≡ Some q → (is_among names q ≡ true) × (p q ≡ true)
 found_passes p [] q h = absurd (false≢true (ap is_some h))
-found_passes p (x ∷ names) q h = step (p x) refl h (found_passes p names q)
-  where
-    step : (b : Bool) → p x ≡ b → cond b (Some x) (find p names) ≡ Some q → (find p names ≡ Some q → (is_among names q ≡ true) × (p q ≡ true)) → (is_among (x ∷ names) q ≡ true) × (p q ≡ true)
-    step true i e k = (or_left _ _ (subst (λ y. bytes_eq q y ≡ true) (sym (same_Some x q e)) (itself q)), subst (λ y. p y ≡ true) (same_Some x q e) i)
-    step false i e k = let r = k e in (or_right (bytes_eq q x) (is_among names q) r.0, r.1)
+found_passes p (x ∷ names) q h = grind (arith, or_left, same_Some, itself, or_right, found_passes p names q)
 
 -- a match was a free name
 pub taken_was_free : (folder : Folder) (s : ℕ) (free : List (List ℕ)) (ts : List Target) (q : List ℕ) → is_among (taken_by folder s free ts) q ≡ true → is_among free q ≡ true
@@ -56,55 +52,6 @@ taken_once folder s free (t ∷ ts) =
     step (Some x) rest k d = (false_from_ne_true _ (λ i. no_other x (k x i)), d)
 
 -- ---- the rule of matches
-
--- the first that passes both tests is the first that passes one among those that pass the other
-find-filter : (p r : List ℕ → Bool) (xs : List (List ℕ)) → find p (filter r xs) ≡ find (λ x. p x && r x) xs
-find-filter p r [] = refl
-find-filter p r (x ∷ xs) =
-    let step : (b : Bool) (ys : List (List ℕ)) → find p (cond b (x ∷ ys) ys) ≡ cond (p x && b) (Some x) (find p ys) = λ b ys. grind arith in
-    step (r x) (filter r xs) ∙ ap (cond (p x && r x) (Some x)) (find-filter p r xs)
-
-find_alike : (p r : List ℕ → Bool) (xs : List (List ℕ)) → ((x : List ℕ) → p x ≡ r x) → find p xs ≡ find r xs
-find_alike p r [] h = refl
-find_alike p r (x ∷ xs) h = ap (λ b. cond b (Some x) (find p xs)) (h x) ∙ ap (cond (r x) (Some x)) (find_alike p r xs h)
-
-filter-filter : (p r : List ℕ → Bool) (xs : List (List ℕ)) → filter p (filter r xs) ≡ filter (λ x. r x && p x) xs
-filter-filter p r [] = refl
-filter-filter p r (x ∷ xs) =
-    let step : (b : Bool) (ys : List (List ℕ)) → filter p (cond b (x ∷ ys) ys) ≡ cond (b && p x) (x ∷ filter p ys) (filter p ys) = λ b ys. grind arith in
-    step (r x) (filter r xs) ∙ ap (λ ys. cond (r x && p x) (x ∷ ys) ys) (filter-filter p r xs)
-
-filter_alike : (p r : List ℕ → Bool) (xs : List (List ℕ)) → ((x : List ℕ) → p x ≡ r x) → filter p xs ≡ filter r xs
-filter_alike p r [] h = refl
-filter_alike p r (x ∷ xs) h = ap (λ b. cond b (x ∷ filter p xs) (filter p xs)) (h x) ∙ ap (λ ys. cond (r x) (x ∷ ys) ys) (filter_alike p r xs h)
-
--- the names that are free after the matches so far
-abbrev free_after : List (List ℕ) → List (List ℕ) → List (List ℕ) → List (List ℕ)
-free_after searched intact before = filter (λ name. not (is_among intact name) && not (is_among before name)) searched
-
-one_more : (searched intact before more : List (List ℕ)) → filter (λ name. not (is_among more name)) (free_after searched intact before) ≡ free_after searched intact (before ++ more)
-one_more searched intact before more =
-    let three : (a b c : Bool) → (not a && not b && not c) ≡ (not a && not (b || c)) = λ a b c. grind arith in
-    filter-filter (λ name. not (is_among more name)) (λ name. not (is_among intact name) && not (is_among before name)) searched
-    ∙ filter_alike _ _ searched (λ x. three (is_among intact x) (is_among before x) (is_among more x) ∙ ap (λ b. not (is_among intact x) && not b) (sym (among-append before more x)))
-
-first_matches : (folder : Folder) (s : ℕ) (searched intact before : List (List ℕ)) (ts : List Target) → AreFirstMatches folder s searched intact before (pairs_with folder s (free_after searched intact before) ts)
-first_matches folder s searched intact before [] = tt
-first_matches folder s searched intact before (t ∷ ts) =
-    let p = (λ (name : List ℕ). is_intact s t (bytes_of folder name)) in
-    let found = find p (free_after searched intact before) in (
-      find-filter p (λ name. not (is_among intact name) && not (is_among before name)) searched
-          ∙ find_alike _ _ searched (λ x. sym (and_assoc (p x) (not (is_among intact x)) (not (is_among before x)))),
-      subst (λ free. AreFirstMatches folder s searched intact (before ++ option_to_list found) (pairs_with folder s free ts)) (sym (one_more searched intact before (option_to_list found)))
-          (first_matches folder s searched intact (before ++ option_to_list found) ts),
-    )
-
--- the matches of a set are those of the rule, in target order
-pub matches_follow : (folder : Folder) (set : ParSet) (searched : List (List ℕ)) → AreFirstMatches folder set.slice_size searched (intact_names folder set) [] (matches folder set searched)
-matches_follow folder set searched = unfold matches in
-    subst (λ free. AreFirstMatches folder set.slice_size searched (intact_names folder set) [] (pairs_with folder set.slice_size free (incomplete folder set)))
-    (filter_alike _ _ searched (λ x. and-true (not (is_among (intact_names folder set) x))))
-    (first_matches folder set.slice_size searched (intact_names folder set) [] (incomplete folder set))
 
 targets_of_pairs : (folder : Folder) (s : ℕ) (free : List (List ℕ)) (ts : List Target) → map (λ m. m.0) (pairs_with folder s free ts) ≡ ts
 targets_of_pairs folder s free [] = refl

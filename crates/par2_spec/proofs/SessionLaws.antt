@@ -2,7 +2,7 @@
 use Rattle.par2_spec.proofs.Common.{◌≡◌, ℕ, zero, suc, ◌+◌, ◌-◌, ◌≤◌, List, [], ◌∷◌, refl, sym, ap, ◌∙◌, true, arith, drop, length, Option, None, Result, Ok, Err, replicate, sum_by, is_ok, AllByRecursion, and_parts, and_from, false≢true, sum_by-cons, drop-nil, Fault, Folder, Change, Write, Replace, Rename, Remove, state_after, effects, are_applicable, way_back, FolderState, takes_all, places_taken, state_after_all, Command, Action, Do, Undo, Redo, refusal, changes_of, LeadsToAfter, LeadsToAfterRequested, Session, first_entry, changes_unless, others, session_unless, KeptSession, session_of_kept, CanWalk, OnlyGrew, folders_along, history_of, changes_requested, session_with, session_after, walks, kept_done, kept_undone, kept_redone, is_valid, leads}
 use Rattle.par2_spec.specs.History.{History, Refusal, NothingToUndo, NothingToRedo, after_command, unless_refused, after_undo, after_redo, Execution, Ended, Accepted, Passed, folders, IsChanging}
 use Rattle.par2_spec.specs.History.{history_after}
-use Rattle.par2_spec.proofs.FolderLaws.{undo_changes, undo_are_applicable, state_files, taken_are_applicable, state_all_back, way_back_taken, changes_back, with_room, more_room_all, takes_applicable}
+use Rattle.par2_spec.proofs.FolderLaws.{undo_changes, undo_are_applicable, state_files, taken_are_applicable, state_all_back, way_back_taken, with_room, more_room_all, takes_applicable}
 
 -- ---- results of actions
 
@@ -128,17 +128,6 @@ pub redone_can_walk : (s : KeptSession) (cs : List Change) (rest : List (List Ch
 redone_can_walk s cs rest c e = unfold kept_redone in
     let r = next_taken s.folder s.redos cs rest c.forth e in
     record { back = walks_back s.folder cs s.undos r.0 c.back; forth = ap (λ es. walks (state_after_all s.folder cs) (others es)) e ∙ r.1 }
-
--- an undo is redone by its way back, and a redo undone
-pub redo_of_undo : (s : KeptSession) (cs : List Change) (rest : List (List Change)) → CanWalk s → s.undos ≡ cs ∷ rest → kept_redone (kept_undone s cs) (way_back s.folder.files cs) ≡ s
-redo_of_undo s cs rest c e = unfold kept_redone kept_undone in
-    let taken = (next_taken s.folder s.undos cs rest c.back e).0 in
-    λ i. record { folder = state_all_back s.folder cs taken i; undos = (ap (λ d. d ∷ others s.undos) (changes_back s.folder cs taken) ∙ ap (λ es. cs ∷ others es) e ∙ sym e) i; redos = s.redos; room = s.room }
-
-pub undo_of_redo : (s : KeptSession) (cs : List Change) (rest : List (List Change)) → CanWalk s → s.redos ≡ cs ∷ rest → kept_undone (kept_redone s cs) (way_back s.folder.files cs) ≡ s
-undo_of_redo s cs rest c e = unfold kept_redone kept_undone in
-    let taken = (next_taken s.folder s.redos cs rest c.forth e).0 in
-    λ i. record { folder = state_all_back s.folder cs taken i; undos = s.undos; redos = (ap (λ d. d ∷ others s.redos) (changes_back s.folder cs taken) ∙ ap (λ es. cs ∷ others es) e ∙ sym e) i; room = s.room }
 
 -- ---- capacity
 

@@ -1,7 +1,7 @@
 -- A folder that a stopped command left opens as the session from before the command.
-use Rattle.par2_spec.proofs.Common.{◌≡◌, ℕ, zero, suc, ◌+◌, ◌-◌, ◌<◌, ◌≤◌, List, [], ◌∷◌, ◌++◌, length, map, take, drop, get_or, refl, sym, ap, ◌∙◌, subst, cond, true, false, Bool, ◌&&◌, inl, arith, length-append, length-drop, append-nil, IfSome, reverse, position, Option, Some, None, Result, Ok, Err, unwrap_or, is_some, if◌then◌else◌, AllByRecursion, position_from, bytes_eq, drop-append_seam, take-append_seam, reverse-reverse, reverse-append, length-reverse, get_or-reverse, get_or-map, take-append-drop, length-map, length-take-le, take-map, take-take, get_or-take, drop-drop, reverse_onto, common_steps, and_parts, and_from, false≢true, position_from-zero, Folder, fingerprint, Change, effect, inverse, is_applicable, effects, are_applicable, way_back, folders_after, Session, session_of, is_valid, Opened, Settled, Halfway, opened_if_found, opened_by_part, FingerprintsDiffer, session_of_opened, kept_in, settled_journal, halfway_journal, leads, leads_through, taken_back, opened, OpensAs, Opens, HalfwayJournalOpensAsBefore, HalfwayBytesOpenAsBefore, HalfwayJournalStillOpens, HalfwayBytesStillOpen}
+use Rattle.par2_spec.proofs.Common.{◌≡◌, ℕ, zero, suc, ◌+◌, ◌-◌, ◌<◌, ◌≤◌, List, [], ◌∷◌, ◌++◌, length, map, take, drop, get_or, refl, sym, ap, ◌∙◌, subst, cond, true, false, Bool, ◌&&◌, inl, arith, length-append, length-drop, append-nil, IfSome, reverse, position, Option, Some, None, Result, Ok, Err, unwrap_or, is_some, if◌then◌else◌, AllByRecursion, position_from, bytes_eq, drop-append_seam, take-append_seam, reverse-reverse, reverse-append, length-reverse, get_or-reverse, get_or-map, take-append-drop, length-map, length-take-le, take-map, take-take, get_or-take, drop-drop, reverse_onto, common_steps, and_parts, and_from, false≢true, position_from-zero, Folder, fingerprint, Change, effect, inverse, is_applicable, effects, are_applicable, way_back, folders_after, Session, session_of, is_valid, Opened, Settled, Halfway, opened_if_found, opened_by_part, FingerprintsDiffer, session_of_opened, kept_in, settled_journal, halfway_journal, leads, leads_through, taken_back, opened, OpensAs, Opens, HalfwayBytesOpenAsBefore, HalfwayBytesStillOpen, IsTrue}
 use Rattle.par2_spec.specs.declared.Version.{Version}
-use Rattle.par2_spec.specs.Journals.{Journal, HalfwayPart, IsHalfwayPart, Spells}
+use Rattle.par2_spec.specs.Journals.{Journal, HalfwayPart, IsHalfwayPart, Spells, IsJournal}
 use Rattle.par2_spec.specs.declared.JournalFault.{JournalFault}
 use Rattle.par2_spec.specs.declared.JournalFault.TheVariants.{JournalInvalid}
 use Rattle.par2_spec.proofs.Basics.{undo_changes, undo_change, undo_is_applicable, effects-append, way_back-append, itself, same_name, all_get, by_test}
@@ -168,7 +168,12 @@ taken_from v s cs k valid applies le = unfold taken_back halfway_journal in
     ∙ ap (λ b. decided b (kept_in v s) back) (kept_is_valid v s valid)
 
 -- the halfway journal of a command opens each folder that the command passes through as the session from before it
-pub halfway_opens : HalfwayJournalOpensAsBefore
+pub halfway_opens :
+    (v : Version) (s : Session) (changes : List Change) (j : ℕ)
+    → IsTrue (is_valid s) → IsTrue (are_applicable s.folder changes)
+    → FingerprintsDiffer s.folder changes → j ≤ length changes → (back : List Change)
+    × (opened (effects s.folder (take j changes)) (halfway_journal v s changes)
+    ≡ Ok (Halfway (kept_in v s) back))
 halfway_opens v s cs j valid applies apart le = unfold opened halfway_journal in
     let journal = halfway_journal v s cs in
     let g = effects s.folder (take j cs) in
@@ -310,7 +315,11 @@ still_taken journal folder h s back k i each lt here last through session valid 
     )
 
 -- if a halfway journal opens a folder, it opens each folder that the way back passes through as that session
-pub still_opens : HalfwayJournalStillOpens
+pub still_opens :
+    (journal : Journal) (folder : Folder) (s : Session) (back : List Change)
+    (i : ℕ) → IsJournal journal → opened folder journal ≡ Ok (Halfway s back)
+    → FingerprintsDiffer folder back → i ≤ length back → (rest : List Change)
+    × (opened (effects folder (take i back)) journal ≡ Ok (Halfway s rest))
 still_opens journal folder s back i is e apart le = unfold opened in
     let t = takes_back folder journal s back e in
     let h = t.halfway in

@@ -13,9 +13,4 @@ pub holds_more : {K : Type 0} (name_of : K → List ℕ) (old new : BTreeSet K) 
     → ((q : K) → contains (name_order name_of) new q ≡ cond (is_at (name_order name_of key) q) true (contains (name_order name_of) old q))
     → ((q : K) → contains (name_order name_of) old q ≡ is_among names (name_of q))
     → (q : K) → contains (name_order name_of) new q ≡ is_among (names ++ name_of key ∷ []) (name_of q)
-holds_more name_of old new key names updates holds q =
-    let either : (a b : Bool) → cond a true b ≡ (b || (a || false)) = λ a b. grind arith in
-    updates q
-    ∙ ap₂ (λ a b. cond a true b) (is_eq-slice_cmp (name_of key) (name_of q) ∙ same_either_way (name_of key) (name_of q)) (holds q)
-    ∙ either (bytes_eq (name_of q) (name_of key)) (is_among names (name_of q))
-    ∙ sym (among-append names (name_of key ∷ []) (name_of q))
+holds_more name_of old new key names updates holds q = grind (arith, is_eq-slice_cmp, same_either_way, among-append)

@@ -1,6 +1,6 @@
 -- If the lost slices are determined, at most one list agrees.
 use Rattle.par2_spec.proofs.Basics.{by_either, xor_middle, product_linear_right, product-lt, product-zero, power-lt, constant-lt, clash, kept-iff, byte_at, word-lt, same_buffers, xor_same, all-both, contained_first, contained_later}
-use Rattle.par2_spec.proofs.Common.{◌≡◌, ℕ, zero, suc, ◌+◌, ◌/◌, ◌%◌, ◌^◌, ◌<◌, ◌≤◌, List, [], ◌∷◌, length, map, take, drop, get_or, refl, sym, ap, ◌∙◌, subst, cond, true, Bool, arith, flat_map, filter, slice_index, ◌==◌, Option, Some, None, is_none, w16, to_le_bytes, from_le_bytes, xor_self, range_with_len, enumerate_from, list_any, AllByRecursion, AllZip, Contains, ForSome, xor_lt, from_le_bytes-to_le_bytes_2, length-map, or_right, cases_eq, AllZip-long, mul, coefficient, word, coefficients, dot, combination, recovery, kept, IsVector, Kills, IsRepairable, Agrees, kept_slices, IsRebuilt, AreElements, ParSet, lost, survivors, AgreeingListsAreOne, bit_xor}
+use Rattle.par2_spec.proofs.Common.{◌≡◌, ℕ, zero, suc, ◌+◌, ◌/◌, ◌%◌, ◌^◌, ◌<◌, ◌≤◌, List, [], ◌∷◌, length, map, take, drop, get_or, refl, sym, ap, ◌∙◌, subst, cond, true, Bool, arith, flat_map, filter, slice_index, ◌==◌, Option, Some, None, is_none, w16, to_le_bytes, from_le_bytes, xor_self, range_with_len, enumerate_from, list_any, AllByRecursion, AllZip, Contains, ForSome, xor_lt, from_le_bytes-to_le_bytes_2, length-map, or_right, cases_eq, AllZip-long, mul, coefficient, word, coefficients, dot, combination, recovery, kept, IsVector, Kills, IsRepairable, Agrees, kept_slices, IsRebuilt, AreElements, ParSet, lost, survivors, bit_xor}
 use Rattle.std.specs.FinMap as map_of
 
 -- ---- sums of lists
@@ -175,7 +175,13 @@ all_same s (x ∷ a) (y ∷ b) even e la lb ha hb same =
     ∙ ap (λ zs. y ∷ zs) (all_same s a b even (omega (arith, e)) la.1 lb.1 ha.1 hb.1 (λ p lt. ap (drop 1) (same p lt)))
 all_same s a b even e la lb ha hb same = absurd (omega (arith, e))
 
-pub agreeing_are_one : AgreeingListsAreOne
+pub agreeing_are_one :
+    (s : ℕ) (known : List (Option (List ℕ))) (recovery : List (ℕ
+    × List ℕ)) (one other : List (List ℕ))
+    → s % 2 ≡ 0 → IsRepairable (lost known) (map (λ r. r.0) recovery)
+    → Agrees s known (kept_slices (lost known) (map (λ r. r.0) recovery) recovery) one
+    → Agrees s known (kept_slices (lost known) (map (λ r. r.0) recovery) recovery) other
+    → one ≡ other
 agreeing_are_one s known rs a b even repairable ga gb =
     let words_alike : (p : ℕ) → p < s / 2 → length a ≡ length known → length b ≡ length known → map (word p) a ≡ map (word p) b = (λ p lt long_a long_b.
     let u = map (word p) a in

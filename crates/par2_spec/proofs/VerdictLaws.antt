@@ -1,5 +1,5 @@
 -- The meaning of the verdict.
-use Rattle.par2_spec.proofs.Common.{◌≡◌, ◌+◌, ℕ, List, [], ◌∷◌, T, length, map, refl, sym, ap, ◌∙◌, subst, Bool, true, false, not, cond, ◌&&◌, Less, arith, ◌↔◌, ◌==◌, nat_lt, Option, Some, Result, Ok, filter, is_some, is_none, if◌then◌else◌, bytes_eq, md5, nat_cmp, is_lt, entries_sorted, is_sorted, below_all, list_all, list_any, enumerate_from, AllByRecursion, eqb-true, eq-eqb, false≢true, not-true, false_from_ne_true, IsStrictlyIncreasing-from_sorted, Fault, NotRepairable, NameTooLong, RepairFailed, then_fault, first_fault, fault_where, Folder, has, bytes_of, ParSet, Target, set_of, all_pairs, ◌>>=◌, found, is_incomplete, incomplete, matches, match_of, lost, survivors, candidates, known, is_repairable, IsRepairable, rank, aside, put_aside, rebuilt_targets, Repair, set_in, refusal, repair_refusal, Report, is_complete, incomplete_state, found_of, verdict_of, IsFound, IsVerdict, IsVerdictIn, RefusedAsReported, state_of, report_of_target, report_of, report_in, IsStrictlySortedBy, Ordering}
+use Rattle.par2_spec.proofs.Common.{◌≡◌, ◌+◌, ℕ, List, [], ◌∷◌, T, length, map, refl, sym, ap, ◌∙◌, subst, Bool, true, false, not, cond, ◌&&◌, Less, arith, ◌↔◌, ◌==◌, nat_lt, Option, Some, Result, Ok, filter, is_some, is_none, if◌then◌else◌, bytes_eq, md5, nat_cmp, is_lt, entries_sorted, is_sorted, below_all, list_all, list_any, enumerate_from, AllByRecursion, eqb-true, eq-eqb, false≢true, not-true, false_from_ne_true, IsStrictlyIncreasing-from_sorted, Fault, NotRepairable, NameTooLong, RepairFailed, then_fault, first_fault, fault_where, Folder, has, bytes_of, ParSet, Target, set_of, all_pairs, found, is_incomplete, incomplete, matches, match_of, lost, survivors, candidates, known, is_repairable, IsRepairable, rank, aside, put_aside, rebuilt_targets, Repair, set_in, refusal, repair_refusal, Report, is_complete, incomplete_state, verdict_of, IsVerdict, IsVerdictIn, RefusedAsReported, state_of, report_of_target, report_of, report_in, IsStrictlySortedBy, Ordering, ◌>>=◌}
 use Rattle.std.specs.FinMap as map_of
 use Rattle.par2_spec.specs.declared.Verdict.{Verdict}
 use Rattle.par2_spec.specs.declared.Verdict.TheVariants.{Complete, Repairable}
@@ -9,7 +9,8 @@ use Rattle.par2_spec.proofs.Basics.{T-parts, repairable-iff, none_kept, all_by_t
 use Rattle.par2_spec.proofs.FullRank.{full-iff}
 use Rattle.par2_spec.proofs.RefusedLaws.{first_cause}
 use Rattle.par2_spec.proofs.AcceptedCommands.{set_in_reads}
-use Rattle.par2_spec.proofs.ReportLaws.{by_target, intact_are_found}
+use Rattle.par2_spec.proofs.FoundLaws.{IsFound}
+use Rattle.par2_spec.proofs.ReportLaws.{by_target, found_of, intact_are_found}
 
 -- ---- the exponents of a map increase
 
@@ -37,13 +38,7 @@ complete_by_target : (folder : Folder) (set : ParSet) (searched : List (List ℕ
     → list_all (λ r. is_complete r.state) (map (λ t. report_of_target folder set searched (t, found_of folder set searched t)) ts) ≡ is_nil (filter (is_incomplete folder set) ts)
 unfolding report_of_target state_of
 complete_by_target folder set searched [] = refl
-complete_by_target folder set searched (t ∷ ts) =
-    let rest : Bool = list_all (λ r. is_complete r.state) (map (λ t. report_of_target folder set searched (t, found_of folder set searched t)) ts) in
-    let needs : List Target = filter (is_incomplete folder set) ts in
-    let there : Bool = has folder t.name in
-    let match : Option (List ℕ) = match_of (matches folder set searched) t.name in
-    let step : (b : Bool) → rest ≡ is_nil needs → (is_complete (cond b (incomplete_state there match) reports.Complete) && rest) ≡ is_nil (cond b (t ∷ needs) needs) = λ b e. grind arith in
-    step (is_incomplete folder set t) (complete_by_target folder set searched ts)
+complete_by_target folder set searched (t ∷ ts) = grind (arith, complete_by_target folder set searched ts)
 
 -- ---- no slice is lost if no target is incomplete
 
@@ -94,13 +89,7 @@ module _ (folder : Folder) (base : List ℕ) (extras : List (List ℕ)) (set : P
       (λ e. law.0 (eqb-true _ _ e), λ h. eq-eqb _ _ (law.1 h))
 
   by_words : IsVerdict folder set searched (verdict_of (report_of folder set searched))
-  by_words = subst (IsVerdict folder set searched) (sym verdict_is) (record {
-    complete = let law = said-complete (is_nil (incomplete folder set)) is_full in (λ e. (nil-iff _).0 (law.0 e), λ e. law.1 ((nil-iff _).1 e));
-    repairable = λ some.
-        let law = said-repairable is_full in
-        let none : is_nil (incomplete folder set) ≡ false = false_from_ne_true _ (λ e. some ((nil-iff _).0 e)) in
-        subst (λ a. (said a is_full ≡ verdict.Repairable) ↔ IsRepairable missing (survivors set)) (sym none) (λ e. repairable_if_full.0 (law.0 e), λ h. law.1 (repairable_if_full.1 h));
-  })
+  by_words = grind (arith, verdict_is, said-complete, nil-iff, said-repairable, false_from_ne_true, said, repairable_if_full)
 
   is_unrepairable : is_full ≡ false → is_repairable missing (survivors set) ≡ false
   is_unrepairable less = false_from_ne_true _ (λ yes. false≢true (sym less ∙ repairable_if_full.1 ((repairable-iff missing (survivors set)).0 yes)))
@@ -130,11 +119,7 @@ module _ (folder : Folder) (base : List ℕ) (extras : List (List ℕ)) (set : P
   refused purge = unfold refusal repair_refusal refusal_by in ap (λ r. then_fault r (λ (set : ParSet). repair_refusal folder set (candidates folder set extras))) reads
 
   as_refused : RefusedAsReported folder base extras (report_of folder set searched)
-  as_refused purge = unfold report_of refusal_by in
-      let law = said-not_repairable (is_nil (incomplete folder set)) is_full in (
-        λ e. refused purge ∙ ap (λ b. refusal_by b is_long are_right) (is_unrepairable (law.0 (sym verdict_is ∙ e)).1),
-        λ e. let less = is_less (not-true _ (first_cause _ is_long (not are_right) (length missing) (rank missing (survivors set)) _ _ (sym (refused purge) ∙ e))) in verdict_is ∙ law.1 (some_incomplete less, less),
-      )
+  as_refused purge = unfold report_of refusal_by in grind (arith, refusal_by, said-not_repairable, refused, is_unrepairable, verdict_is, is_less, not-true, first_cause, some_incomplete)
 
 -- ---- the verdict of a report
 

@@ -15,11 +15,7 @@ part a b c sent rest bytes is more p q =
 -- n more bytes were taken
 pub step : (a b c : Option (List ℕ)) (sent rest bytes : List ℕ) (n : ℕ) → bytes ≡ sent ++ rest → Appends a b sent → Appends b c (take n rest)
     → (s : List ℕ) × (bytes ≡ s ++ take (length rest - n) (drop n rest)) × Appends a c s
-step a b c sent rest bytes n is p q =
-    let all : take (length rest - n) (drop n rest) ≡ drop n rest = take_all (length rest - n) (drop n rest) (omega (arith, length-drop n rest)) in
-    let parts : bytes ≡ (sent ++ take n rest) ++ drop n rest =
-    is ∙ ap (λ r. sent ++ r) (sym (take-append-drop n rest)) ∙ sym (append_assoc sent (take n rest) (drop n rest)) in
-    (sent ++ take n rest, parts ∙ ap (λ r. (sent ++ take n rest) ++ r) (sym all), Appends-trans a b c sent (take n rest) p q)
+step a b c sent rest bytes n is p q = grind (arith, take_all, length-drop, take-append-drop, append_assoc, Appends-trans)
 
 -- laws for any view of a writer
 module _ {P : Type 0} (seen : P → Writer) where

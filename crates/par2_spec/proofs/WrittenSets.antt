@@ -1,5 +1,5 @@
 -- Written packets of a set are read back.
-use Rattle.par2_spec.proofs.Common.{◌≡◌, ℕ, suc, ◌-◌, ◌+◌, ◌*◌, ◌/◌, ◌%◌, ◌^◌, ◌<◌, true, leb, eqb, ◌&&◌, List, [], ◌∷◌, ◌++◌, length, take, drop, map, refl, sym, ap, ◌∙◌, append_assoc, arith, zero, Bool, false, length-append, append-nil, flat_map, Option, Some, None, reverse, replicate, w32, w64, to_le_bytes, from_le_bytes, w16, AllByRecursion, range_with_len, list_any, prefix_len, suffix_len, le-leb, eq-eqb, and_from, cond-true, or_parts, or_from, take_at, drop_at, length-replicate, reverse-append, replicate_more, from_le_bytes-to_le_bytes_4, from_le_bytes-to_le_bytes_8, Pair, IsPair, bytes_at, items_at, MainBody, IfscBody, without_end_zeros, DescBody, Packet, packet, accepted, IsCanonical, IsPacket, u64_at, u32_at, read_main, read_ifsc, read_recovery, read_desc, kind_of, FileRecord, main_bytes, ifsc_bytes, pair_bytes, recovery_bytes, desc_bytes, padded_4, IsFileRecord, creator_bytes, main_id, packet_of, recovery_packets, index_packets, list_any-append, prefix_len-append, prefix_len-replicate, length-range_with_len, length-md5, Kind, dot, coefficients, recovery, combination, word, MainIsRead, DescIsRead, RecoverySlicesAreRead, common_steps}
+use Rattle.par2_spec.proofs.Common.{◌≡◌, ℕ, suc, ◌-◌, ◌+◌, ◌*◌, ◌/◌, ◌%◌, ◌^◌, ◌<◌, true, leb, eqb, ◌&&◌, List, [], ◌∷◌, ◌++◌, length, take, drop, map, refl, sym, ap, ◌∙◌, append_assoc, arith, zero, Bool, false, length-append, append-nil, flat_map, Option, Some, None, reverse, replicate, w32, w64, to_le_bytes, from_le_bytes, w16, AllByRecursion, range_with_len, list_any, prefix_len, suffix_len, le-leb, eq-eqb, and_from, cond-true, or_parts, or_from, take_at, drop_at, length-replicate, reverse-append, replicate_more, from_le_bytes-to_le_bytes_4, from_le_bytes-to_le_bytes_8, Pair, IsPair, bytes_at, items_at, MainBody, IfscBody, without_end_zeros, DescBody, Packet, packet, accepted, IsCanonical, IsPacket, u64_at, u32_at, read_main, read_ifsc, read_desc, kind_of, FileRecord, main_bytes, ifsc_bytes, pair_bytes, recovery_bytes, desc_bytes, padded_4, IsFileRecord, creator_bytes, main_id, packet_of, recovery_packets, index_packets, list_any-append, prefix_len-append, prefix_len-replicate, length-range_with_len, length-md5, Kind, dot, coefficients, recovery, combination, word, common_steps, ◌==◌}
 use Rattle.par2_spec.specs.declared.Kind.TheVariants.{Main, Ifsc, Recovery, FileDesc, Creator}
 use Rattle.par2_spec.proofs.WrittenPackets.{part_at, len3, packets_then}
 use Rattle.par2_spec.proofs.Basics.{all-each, all-map, all-append}
@@ -33,7 +33,11 @@ items_there bytes head item body front (x ∷ xs) a h at is =
 abbrev main_of : ℕ → List (List ℕ) → Option MainBody
 main_of s ids = Some (record { slice_size = s; ids = ids })
 
-pub main_reads : MainIsRead
+pub main_reads :
+    (s : ℕ) (files : List FileRecord) → s < 2 ^ 64 → length files < 2 ^ 32
+    → AllByRecursion (λ file. length file.id ≡ 16) files
+    → read_main Main (main_bytes s files)
+    ≡ Some (record { slice_size = s; ids = map (λ file. file.id) files })
 main_reads s files low few ids = unfold read_main in
     let n : ℕ = length files in
     let front : List ℕ = to_le_bytes w64 s ++ to_le_bytes w32 n in
@@ -52,11 +56,6 @@ main_reads s files low few ids = unfold read_main in
     ∙ ap (λ (k : ℕ). main_of k (items_at 12 16 (u32_at 8 body) body)) slice
     ∙ ap (λ (k : ℕ). main_of s (items_at 12 16 k body)) count
     ∙ ap (main_of s) there
-
--- ---- RecvSlic
-
-pub recovery_reads : (e : ℕ) (bytes : List ℕ) → e < 2 ^ 32 → read_recovery Recovery (recovery_bytes e bytes) ≡ Some (record { exponent = e; bytes = bytes })
-recovery_reads e bytes lt = unfold read_recovery in grind (arith, length-append, le-leb, cond-true, u32_there, drop_at)
 
 -- ---- IFSC
 
@@ -153,7 +152,16 @@ at_48 a b c d e = simp append_assoc
 at_56 : (a b c d e : List ℕ) → a ++ b ++ c ++ d ++ e ≡ (a ++ (b ++ (c ++ d))) ++ e
 at_56 a b c d e = simp append_assoc
 
-pub desc_reads : DescIsRead
+pub desc_reads :
+    (file : FileRecord) → length file.id ≡ 16 → length file.md5 ≡ 16
+    → length file.md5_16k ≡ 16 → file.length < 2 ^ 64 → list_any (λ b. b == 0) file.name
+    ≡ false → read_desc FileDesc (desc_bytes file) ≡ Some (record {
+      id = file.id;
+      md5 = file.md5;
+      md5_16k = file.md5_16k;
+      length = file.length;
+      name = file.name;
+    })
 desc_reads file i d s low none = unfold read_desc in
     let body : List ℕ = desc_bytes file in
     let n : List ℕ = to_le_bytes w64 file.length in
@@ -257,5 +265,9 @@ recovery_made s id buffers e n sixteen even few =
     let size : length (recovery s buffers k) ≡ s = recovery_length s buffers k (omega (arith, even)) in
     recovery_packet id k (recovery s buffers k) sixteen (omega (arith, size, even)) (omega (arith, size, few))) (range_with_len e n)
 
-pub recovery_slices_read : RecoverySlicesAreRead
+pub recovery_slices_read :
+    (s : ℕ) (id : List ℕ) (slices : List (List ℕ)) (e n : ℕ) (bytes : List ℕ)
+    → length id ≡ 16 → s % 4 ≡ 0 → s < 2 ^ 60
+    → accepted (flat_map packet (recovery_packets s id slices e n) ++ bytes)
+    ≡ recovery_packets s id slices e n ++ accepted bytes
 recovery_slices_read s id buffers e n bytes sixteen even few = packets_then (recovery_packets s id buffers e n) bytes (recovery_made s id buffers e n sixteen even few)

@@ -35,11 +35,15 @@ pow a (suc e) = mul a (pow a e)
 abbrev pub is_coprime : ℕ → Bool
 is_coprime n = not (n % 3 == 0) && not (n % 5 == 0) && not (n % 17 == 0) && not (n % 257 == 0)
 
--- the numbers from 1 to 65,535 that are coprime to 65,535, in order: there are 32,768 (Euler's totient)
+-- the most input slices of a set: there are no more constants
+abbrev pub max_slices : ℕ
+max_slices = 32768
+
+-- the numbers from 1 to 65,535 that are coprime to 65,535, in order: there are `max_slices` (Euler's totient)
 unfoldable pub constant_powers : List ℕ
 constant_powers = filter is_coprime (range_with_len 1 65535)
 
--- the constant of input slice k (Parity Volume Set Specification 2.0), for k below 32,768; there are no others
+-- the constant of input slice k (Parity Volume Set Specification 2.0), for k below `max_slices`
 unfoldable pub constant : ℕ → ℕ
 unfolding constant_powers pow
 constant k = pow 2 (slice_index constant_powers k)

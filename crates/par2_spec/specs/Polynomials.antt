@@ -1,9 +1,8 @@
 -- Polynomials over the field, as lists of coefficients, the constant one first. In characteristic 2 a difference is a
 -- sum, so `z - c` is `z + c`.
-use Rattle.std.specs.Prelude.{ℕ, ◌≡◌, ◌<◌, ◌^◌, bit_xor, nat_eq, List, [], ◌∷◌, length, map}
+use Rattle.std.specs.Prelude.{ℕ, ◌<◌, ◌^◌, bit_xor, nat_eq, List, [], ◌∷◌, map}
 use Rattle.std.specs.List.{AllByRecursion, IsDistinct}
 use Rattle.par2_spec.specs.Field.{mul}
-use Rattle.par2_spec.specs.Rank.{IsVector}
 
 -- the value at z, by Horner's rule
 unfoldable pub value : List ℕ → ℕ → ℕ
@@ -48,8 +47,3 @@ AreElements p = AllByRecursion (λ c. c < 2 ^ 16) p
 pub record ArePoints (points : List ℕ) : Type 0 where
   pub elements : AreElements points
   pub distinct : IsDistinct nat_eq points
-
--- the interpolating polynomial (Lagrange): it has as many coefficients as there are points, and these values at them
-pub record Interpolates (points values p : List ℕ) : Type 0 where
-  pub vector : IsVector (length points) p
-  pub at_points : map (value p) points ≡ values

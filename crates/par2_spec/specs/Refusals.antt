@@ -3,6 +3,7 @@ use Rattle.std.specs.Prelude.{ℕ, ◌+◌, ◌==◌, ◌&&◌, nat_le, nat_lt, 
 use Rattle.std.specs.List.{list_all, list_any, enumerate_from}
 use Rattle.std.specs.Str.{bytes_eq}
 use Rattle.md5.specs.Md5.{md5}
+use Rattle.par2_spec.specs.Field.{max_slices}
 use Rattle.par2_spec.specs.Faults.{first_fault, fault_where, fault_at, then_fault, fault_of}
 use Rattle.par2_spec.specs.Slices.{slice_count}
 use Rattle.par2_spec.specs.Rank.{is_repairable, rank}
@@ -50,7 +51,7 @@ create_refusal folder a =
     ∷ fault_at 1 DuplicateInput (λ z. is_among (take z.0 a.inputs) z.1) (enumerate_from 0 a.inputs)
     ∷ fault_at 1 NoSuchFile (λ word. not (has folder word)) a.inputs
     ∷ fault_at 1 EmptyFile (λ file. length file.1 == 0) files
-    ∷ fault_where (nat_lt 32768 (sum_by (λ file. slice_count a.slice (length file.1)) files)) TooManySlices
+    ∷ fault_where (nat_lt max_slices (sum_by (λ file. slice_count a.slice (length file.1)) files)) TooManySlices
     ∷ fault_where (not (length (distinct (map id_of files)) == length files)) DuplicateId
     ∷ fault_where (list_any (λ file. nat_lt 255 (length file.0)) (outputs_of folder a)) NameTooLong
     ∷ fault_where (not a.overwrite && list_any (λ file. has folder file.0) (outputs_of folder a)) Exists

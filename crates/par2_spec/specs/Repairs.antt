@@ -1,24 +1,26 @@
 -- The folder after a repair and after a purge: rules of this program.
-use Rattle.std.specs.Prelude.{ℕ, ◌+◌, ◌&&◌, Bool, IsTrue, not, List, [], ◌∷◌, ◌++◌, length, take, drop, map, filter, filter_map, find, zip, Option, is_none, unwrap_or, option_map, ◌^◌, ◌<◌, flat_map, ◌≡◌, IsFalse, Some, None}
+use Rattle.std.specs.Prelude.{ℕ, ◌+◌, ◌&&◌, Bool, IsTrue, not, List, [], ◌∷◌, ◌++◌, length, take, drop, map, filter, filter_map, find, zip, Option, is_none, unwrap_or, option_map, ◌^◌, ◌<◌, ◌≡◌, IsFalse, Some, None}
 use Rattle.std.specs.FinMap as map_of
-use Rattle.std.specs.List.{list_all, list_any, range_with_len, concat, enumerate_from, IsDistinct, AllByRecursion}
+use Rattle.std.specs.List.{list_all, list_any, range_with_len, concat, AllByRecursion}
 use Rattle.std.specs.Str.{bytes_eq}
 use Rattle.par2_spec.specs.Lists.{all_lists, all_buffers}
-use Rattle.par2_spec.specs.Rank.{agrees, kept_slices, AreBytes, IsRepairable}
+use Rattle.par2_spec.specs.Rank.{agrees, kept_slices}
 use Rattle.par2_spec.specs.Names.{is_among, numbered, is_par_name}
 use Rattle.par2_spec.specs.Packets.{accepted}
 use Rattle.par2_spec.specs.Folders.{Folder, File, has, bytes_of, names, laid_over, without}
-use Rattle.par2_spec.specs.Sets.{ParSet, Target, target_names, MadeFrom}
-use Rattle.par2_spec.specs.Search.{incomplete, matches, known, lost, survivors, matching, incomplete_names, candidates, NoCollision}
-use Rattle.par2_spec.specs.Windows.{found}
+use Rattle.par2_spec.specs.Sets.{ParSet, Target, target_names}
+use Rattle.par2_spec.specs.Search.{incomplete, matches, known, lost, survivors, matching, incomplete_names}
 use Rattle.std.specs.Option.{ForSome}
-use Rattle.par2_spec.specs.Volumes.{all_slices}
+
+-- the recovery slices of the kept exponents, if these slices are known
+abbrev pub kept_recovery : ParSet → List (Option (List ℕ)) → List (ℕ × List ℕ)
+kept_recovery set known = kept_slices (lost known) (survivors set) (map_of.entries set.recovery)
 
 -- the list of slices that agrees with the known ones and the recovery slices of the kept exponents
 unfoldable pub rebuilt : ParSet → List (Option (List ℕ)) → List (List ℕ)
 unfolding agrees
 rebuilt set known =
-    unwrap_or (find (agrees set.slice_size known (kept_slices (lost known) (survivors set) (map_of.entries set.recovery))) (all_lists (all_buffers set.slice_size) (length known))) []
+    unwrap_or (find (agrees set.slice_size known (kept_recovery set known)) (all_lists (all_buffers set.slice_size) (length known))) []
 
 -- the items, cut into lists of these lengths in order
 abbrev pub cut_into : {A : Type 0} → List ℕ → List A → List (List A)
@@ -57,17 +59,6 @@ unfoldable pub rebuilt_targets : Folder → ParSet → List (List ℕ) → List 
 unfolding matches known rebuilt
 rebuilt_targets folder set searched =
     filter (λ c. is_among (names_without_match (matches folder set searched)) c.0.name) (files_of_slices set (rebuilt set (known folder set searched)))
-
--- for each slice whether its target is incomplete without a match, and the slice if it is found
-abbrev pub slices_by_target : Folder → ParSet → List (List ℕ) → List (Bool × Option (List ℕ))
-slices_by_target folder set searched =
-    flat_map (λ t. map (λ pair. (is_among (names_without_match (matches folder set searched)) t.name, found set.slice_size (map (bytes_of folder) searched) pair)) t.pairs)
-    set.targets
-
--- the numbers of the slices that are not found and whose targets are incomplete without a match
-abbrev pub lost_of_unmatched : Folder → ParSet → List (List ℕ) → List ℕ
-lost_of_unmatched folder set searched =
-    map (λ z. z.0) (filter (λ z. z.1.0 && is_none z.1.1) (enumerate_from 0 (slices_by_target folder set searched)))
 
 -- the incomplete targets that exist, whose files are put aside
 abbrev pub put_aside : Folder → ParSet → List (List ℕ)
@@ -110,12 +101,6 @@ after_repair_and_purge folder set searched =
 abbrev pub after_purge : Folder → ParSet → Folder
 after_purge folder set = without (par_files folder set) folder
 
--- the premises of a repair on the folder, the set and the searched names
-pub record FitsRepair (folder : Folder) (set : ParSet) (searched : List (List ℕ)) : Type 0 where
-  pub names_once : IsDistinct bytes_eq (target_names set)
-  pub all_there : IsTrue (list_all (has folder) searched)
-  pub few : AreFew folder set
-
 -- the folder after a repair, file by file
 pub record HoldsRepaired (folder : Folder) (set : ParSet) (searched : List (List ℕ)) (after : Folder) : Type 0 where
   -- each matched target has the bytes of its match
@@ -133,11 +118,3 @@ pub record HoldsRepaired (folder : Folder) (set : ParSet) (searched : List (List
   -- each other file is as it was
   pub others : (name : List ℕ) → IsFalse (is_among (incomplete_names folder set) name) → IsFalse (is_among (matching folder set searched) name)
       → IsFalse (is_among (map (aside folder set) (put_aside folder set)) name) → map_of.get after name ≡ map_of.get folder name
-
--- the statement holds if the extra files exist, no checksum collides, the original files hold bytes, and the lost
--- slices are determined
-abbrev pub Restores : (folder : Folder) (base : List ℕ) (extras : List (List ℕ)) (files : List File) (s : ℕ) → MadeFrom folder base files s → Type 0 → Type 0
-Restores folder base extras files s m what =
-    let searched = candidates folder m.set extras in
-    IsTrue (list_all (has folder) extras) → NoCollision folder searched s (all_slices s files)
-    → AllByRecursion (λ file. AreBytes file.1) files → IsRepairable (lost (known folder m.set searched)) (survivors m.set) → what

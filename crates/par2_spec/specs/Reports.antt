@@ -1,9 +1,8 @@
 -- The report of a verify.
-use Rattle.std.specs.Prelude.{◌≡◌, ◌≢◌, ◌↔◌, ℕ, ◌==◌, Bool, true, false, List, [], ◌∷◌, length, drop, map, filter, zip, slice_index_or, Option, Some, None, Result, Ok, is_some, if◌then◌else◌}
-use Rattle.std.specs.List.{list_all, AllByRecursion}
-use Rattle.par2_spec.specs.Windows.{found}
+use Rattle.std.specs.Prelude.{◌≡◌, ◌≢◌, ◌↔◌, ℕ, ◌==◌, Bool, true, false, List, [], length, map, filter, zip, Option, Some, None, Result, Ok, is_some, if◌then◌else◌}
+use Rattle.std.specs.List.{list_all}
 use Rattle.par2_spec.specs.Rank.{rank, IsRepairable}
-use Rattle.par2_spec.specs.Folders.{Folder, has, bytes_of}
+use Rattle.par2_spec.specs.Folders.{Folder, has}
 use Rattle.par2_spec.specs.Sets.{ParSet, Target, ◌>>=◌}
 use Rattle.par2_spec.specs.Search.{is_incomplete, incomplete, matches, match_of, known, lost, survivors, candidates}
 use Rattle.par2_spec.specs.Repairs.{cut_into}
@@ -88,40 +87,6 @@ report_in folder base extras = do
   set ← set_in folder base extras
   Ok (report_of folder set (candidates folder set extras))
 
--- ---- the report by targets
-
--- the slices of a target, each if it is found
-abbrev pub found_of : Folder → ParSet → List (List ℕ) → Target → List (Option (List ℕ))
-found_of folder set searched t = map (found set.slice_size (map (bytes_of folder) searched)) t.pairs
-
--- the reports of the targets, each from its own slices
-abbrev pub reports_by_target : Folder → ParSet → List (List ℕ) → List TargetReport
-reports_by_target folder set searched =
-    map (λ t. report_of_target folder set searched (t, found_of folder set searched t)) set.targets
-
--- the states of the targets in order, from the matches of the incomplete ones in order
-abbrev pub states_by : (Target → Bool) → (Target → Bool) → List Target → List (Option (List ℕ)) → List State
-states_by incomplete there [] given = []
-states_by incomplete there (t ∷ ts) given =
-    if incomplete t then incomplete_state (there t) (slice_index_or given 0 None) ∷ states_by incomplete there ts (drop 1 given)
-    else Complete ∷ states_by incomplete there ts given
-
--- each slice of the target is found
-abbrev pub IsFound : Folder → ℕ → List (List ℕ) → Target → Type 0
-IsFound folder s searched t =
-    AllByRecursion (λ pair. is_some (found s (map (bytes_of folder) searched) pair) ≡ true) t.pairs
-
--- some file is intact for a target in this state
-abbrev pub HasIntactFile : State → Type 0
-HasIntactFile Complete = Unit {0}
-HasIntactFile (Misplaced name) = Unit {0}
-HasIntactFile Damaged = ⊥
-HasIntactFile Missing = ⊥
-
--- if some file is intact for the target, all its slices are reported as found
-abbrev pub IsFoundWhole : TargetReport → Type 0
-IsFoundWhole report = HasIntactFile report.state → report.found ≡ report.total
-
 -- ---- the meaning of the verdict
 
 -- complete exactly if no target is incomplete; else repairable exactly if the surviving exponents determine the lost
@@ -141,25 +106,3 @@ RefusedAsReported folder base extras report =
     (purge : Bool)
     → (verdict_of report ≡ verdict.NotRepairable)
     ↔ (refusal folder (Repair base extras purge) ≡ Some (NotRepairable report.lost report.rank))
-
--- ---- laws of reports
-
--- the report of a set has the report of each target from its own slices
-abbrev pub IsByTarget : Folder → ParSet → List (List ℕ) → Type 0
-IsByTarget folder set searched = (report_of folder set searched).targets ≡ reports_by_target folder set searched
-
--- the states of the targets follow from the matches
-abbrev pub StatesFollow : Folder → ParSet → List (List ℕ) → Type 0
-StatesFollow folder set searched =
-    map (state_of folder set searched) set.targets
-    ≡ states_by (is_incomplete folder set) (λ t. has folder t.name) set.targets (map (λ m. m.1) (matches folder set searched))
-
--- each slice of an intact target is found
-abbrev pub IntactAreFound : Folder → ParSet → List (List ℕ) → Type 0
-IntactAreFound folder set searched =
-    AllByRecursion (λ t. is_incomplete folder set t ≡ false → IsFound folder set.slice_size searched t) set.targets
-
--- each slice of a target that has a match is found
-abbrev pub MatchedAreFound : Folder → ParSet → List (List ℕ) → Type 0
-MatchedAreFound folder set searched =
-    AllByRecursion (λ m. is_some m.1 ≡ true → IsFound folder set.slice_size searched m.0) (matches folder set searched)

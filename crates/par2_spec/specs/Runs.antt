@@ -3,11 +3,12 @@
 use Rattle.std.specs.Prelude.{ℕ, ◌+◌, ◌<◌, List}
 use Rattle.std.specs.List.{AllByRecursion, Contains}
 use Rattle.std.specs.List.Sorted.{IsStrictlyIncreasing}
+use Rattle.par2_spec.specs.Field.{max_slices}
 
 -- increasing numbers of input slices, all of which have a constant
 pub record AreSlices (numbers : List ℕ) : Type 0 where
   pub rise : IsStrictlyIncreasing numbers
-  pub below : AllByRecursion (λ k. k < 32768) numbers
+  pub below : AllByRecursion (λ k. k < max_slices) numbers
 
 -- any two of the exponents differ by less than n
 abbrev pub AreClose : ℕ → List ℕ → Type 0

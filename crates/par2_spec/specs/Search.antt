@@ -52,14 +52,6 @@ matches folder set searched =
 abbrev pub matching : Folder → ParSet → List (List ℕ) → List (List ℕ)
 matching folder set searched = filter_map (λ m. m.1) (matches folder set searched)
 
--- each match is the first searched name that is intact for its target, belongs to no intact target and is no earlier
--- match
-abbrev pub AreFirstMatches : Folder → ℕ → List (List ℕ) → List (List ℕ) → List (List ℕ) → List (Target × Option (List ℕ)) → Type 0
-AreFirstMatches folder s searched intact before [] = Unit {0}
-AreFirstMatches folder s searched intact before (m ∷ ms) =
-    (m.1 ≡ find (λ name. is_intact s m.0 (bytes_of folder name) && not (is_among intact name) && not (is_among before name)) searched)
-    × AreFirstMatches folder s searched intact (before ++ option_to_list m.1) ms
-
 -- the slices of a set, each if it is found in the files of these names
 unfoldable pub known : Folder → ParSet → List (List ℕ) → List (Option (List ℕ))
 known folder set searched = map (found set.slice_size (map (bytes_of folder) searched)) (all_pairs set)

@@ -7,6 +7,7 @@ use Rattle.std.specs.Ordering.{nat_cmp}
 use Rattle.std.specs.List.{list_all, AllByRecursion, IsDistinct}
 use Rattle.std.specs.Str.{bytes_eq}
 use Rattle.md5.specs.Md5.{md5}
+use Rattle.par2_spec.specs.Field.{max_slices}
 use Rattle.par2_spec.specs.Checksums.{Pair}
 use Rattle.par2_spec.specs.Slices.{slice_count}
 use Rattle.par2_spec.specs.Recovery.{recovery}
@@ -81,7 +82,7 @@ target_of packets s d =
 -- the names are valid and distinct, and there are no more slices than constants
 abbrev pub are_in_profile : ℕ → List DescBody → Bool
 are_in_profile s ds =
-    nat_le (sum_by (λ d. slice_count s d.length) ds) 32768 && list_all (λ d. is_name d.name) ds
+    nat_le (sum_by (λ d. slice_count s d.length) ds) max_slices && list_all (λ d. is_name d.name) ds
     && length (distinct (map (λ d. d.name) ds)) == length ds
 
 -- for each exponent up to 65,535 the first recovery slice of s bytes: a map made of entries keeps the first of a key
@@ -133,7 +134,7 @@ pub record IsSound (set : ParSet) : Type 0 where
   pub names_once : IsDistinct bytes_eq (target_names set)
   pub size : IsTrue (is_slice_size set.slice_size)
   pub pairs : AllByRecursion (λ t. length t.pairs ≡ slice_count set.slice_size t.length) set.targets
-  pub slices : length (all_pairs set) ≤ 32768
+  pub slices : length (all_pairs set) ≤ max_slices
   pub recovery : AllByRecursion (λ r. (r.0 < 65536) × (length r.1 ≡ set.slice_size)) (map_of.entries set.recovery)
 
 -- ---- a set that was made from known files

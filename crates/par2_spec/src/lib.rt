@@ -1,21 +1,16 @@
 //! Definitions that all contracts cite, the enums and structs that definitions and code share, and laws about the
 //! definitions. Every crate but `par2_md5_lanes` is built on this one. It has no code but messages and conversions of
 //! faults, and must not know how anything is computed, stored or printed. The functions of the `_laws` modules are
-//! empty: the contract of each is a law. A function calls the laws that its contract needs.
+//! empty: the contract of each is a law, whose statement is in specs/. A function calls the laws that its contract
+//! needs.
 #![tactic(auto)]
 
-pub mod checksum_laws;
 mod commands;
-pub mod create_laws;
 pub mod field_laws;
 pub mod folder_laws;
 pub mod packet_laws;
-pub mod polynomial_laws;
 pub mod rank_laws;
 pub mod repair_laws;
-pub mod report_laws;
-pub mod restored_laws;
-pub mod run_laws;
 pub mod search_laws;
 pub mod session_laws;
 pub mod stop_laws;

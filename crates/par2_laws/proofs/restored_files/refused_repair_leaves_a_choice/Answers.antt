@@ -1,3 +1,2 @@
 pub returns : Rattle.par2_laws.proofs.restored_files.refused_repair_leaves_a_choice.Goals.returns
-returns c folder base extras purge files s missing rank original refused =
-    c.refused_repair_has_a_choice.ensures folder base extras purge files s missing rank original.made original.no_collision original.bytes refused
+returns c folder base extras purge files s m r original = Rattle.par2_laws.proofs.Reading.has_choice folder base extras files s original purge m r

@@ -1,2 +1,0 @@
-pub returns : Rattle.par2_laws.proofs.packets.packets_tell_the_files.Goals.returns
-returns c = Rattle.par2_laws.proofs.SetsOfFiles.made_from

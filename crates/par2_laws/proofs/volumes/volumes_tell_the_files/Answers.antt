@@ -1,2 +1,0 @@
-pub returns : Rattle.par2_laws.proofs.volumes.volumes_tell_the_files.Goals.returns
-returns c = Rattle.par2_laws.proofs.VolumeFolders.set_made
