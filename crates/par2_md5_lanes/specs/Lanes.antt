@@ -1,5 +1,5 @@
 -- The contents of one lane of some vectors.
-use Rattle.std.specs.Prelude.{ℕ, List, [], ◌∷◌, ◌+◌, ◌-◌, ◌<◌, ◌≤◌, ◌≡◌, if◌then◌else◌, length, map, nat_lt, slice_index}
+use Rattle.std.specs.Prelude.{ℕ, List, [], ◌∷◌, ◌+◌, ◌-◌, ◌^◌, ◌<◌, ◌≤◌, ◌≡◌, if◌then◌else◌, length, map, nat_lt, slice_index}
 use Rattle.std.specs.Borrow.{Bor}
 use Rattle.md5.specs.Md5.{add_state, rounds, word_at}
 use Rattle.par2_md5_lanes.specs.Buffers.{buffer_at}
@@ -22,9 +22,17 @@ lane_words at k words = map (λ word. at word k) words
 abbrev pub four_words_at : List ℕ → ℕ → List ℕ
 four_words_at bytes at = word_at bytes at ∷ word_at bytes (at + 4) ∷ word_at bytes (at + 8) ∷ word_at bytes (at + 12) ∷ []
 
--- each of the first `count` buffers has at least this many bytes
-abbrev pub Have : ℕ → ℕ → List (Bor (List ℕ)) → Type 0
-Have count size buffers = (k : ℕ) → k < count → size ≤ length (buffer_at buffers k)
+-- each of `count` lanes, sixteen at most, has a buffer of at least `size` bytes
+pub record Have (count size : ℕ) (buffers : List (Bor (List ℕ))) : Type 0 where
+  pub few : count ≤ 16
+  pub enough : count ≤ length buffers
+  pub room : size < 2 ^ 64
+  pub each : (k : ℕ) → k < count → size ≤ length (buffer_at buffers k)
+
+-- each of `count` messages has one of the lanes, which are sixteen at most
+pub record HaveLanes (count lanes : ℕ) : Type 0 where
+  pub own : count ≤ lanes
+  pub few : lanes ≤ 16
 
 -- each lane has four words of its buffer, from the offset on
 abbrev pub AreFourWords : {V : Type 0} → ℕ → (V → ℕ → ℕ) → List (Bor (List ℕ)) → ℕ → HashState V → Type 0

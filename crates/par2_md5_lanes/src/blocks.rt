@@ -16,9 +16,7 @@ use std::simd::prelude::*;
 // The sixteen words of the block that begins at byte `offset` of each buffer: lane k has those of buffer k.
 #[inline(always)]
 fn read_words<V: Lanes>(buffers: &[&[u8]], offset: usize) -> Words<V>
-    requires enough { V.count ≤ length buffers.now }
-    requires room { offset + 64 < 2 ^ 64 }
-    requires within { Have V.count (offset + 64) buffers.now }
+    requires { Have V.count (offset + 64) buffers.now }
     ensures { (k : ℕ) → k < V.count → lane_words V.at k result
         ≡ block_words (take 64 (drop offset (buffer_at buffers.now k))) 16 }
 {
@@ -42,16 +40,12 @@ pub(crate) trait Hashes: Copy {
 
     /// Reads the hash values at the beginning of the buffers, low byte first.
     fn read(buffers: &[&[u8]]) -> Self
-        requires enough { count ≤ length buffers.now }
-        requires within { Have count 16 buffers.now }
+        requires { Have count 16 buffers.now }
         ensures { (k : ℕ) → k < count → at k result ≡ four_words_at (buffer_at buffers.now k) 0 };
 
     /// The hash values after the first `blocks` blocks of each buffer. `hash_behind`: the hash value after some blocks.
     fn absorbed(self, buffers: &[&[u8]], blocks: usize) -> Self
-        requires few { count ≤ 16 }
-        requires enough { count ≤ length buffers.now }
-        requires room { blocks * 64 < 2 ^ 64 }
-        requires within { Have count (blocks * 64) buffers.now }
+        requires { Have count (blocks * 64) buffers.now }
         ensures { (k : ℕ)
             → k < count → at k result ≡ hash_behind (at k self) (buffer_at buffers.now k) blocks };
 

@@ -51,10 +51,7 @@ pub(crate) trait Lanes: Copy {
 
     /// Four words of each buffer, from byte `offset` on: one vector for each of the four places.
     fn four_words(buffers: &[&[u8]], offset: usize) -> HashState<Self>
-        // There is a buffer for each lane, and it has four words from the offset on.
-        requires enough { count ≤ length buffers.now }
-        requires room { offset + 16 < 2 ^ 64 }
-        requires within { Have count (offset + 16) buffers.now }
+        requires { Have count (offset + 16) buffers.now }
         // The lanes of `a`, `b`, `c` and `d` are the first to the fourth of these words.
         ensures { AreFourWords count at buffers.now offset result };
 

@@ -10,6 +10,7 @@ ghost use Rattle.std.specs.Int.{to_le_bytes};
 ghost use Rattle.md5.specs.Md5.{digest_bytes, hash_after, md5, padded_message};
 ghost use Rattle.par2_md5_lanes.specs.Digests.{digest_at};
 ghost use Rattle.par2_md5_lanes.specs.Buffers.{buffer_at, AreSixteenths};
+ghost use Rattle.par2_md5_lanes.specs.Lanes.{HaveLanes};
 
 mod blocks;
 mod feeds;
@@ -74,8 +75,7 @@ fn digest_of(hash: [u32; 4]) -> [u8; 16]
 // The digests of the first `count` windows, of `len` bytes each, in as many lanes as `H` has. Each absorbs its whole
 // blocks, and then its tail: the rest and the padding.
 fn digests<H: Hashes>(windows: &[&[u8]; LANES], count: usize, len: usize) -> [[u8; 16]; LANES]
-    requires lanes { count ≤ H.count }
-    requires few { H.count ≤ 16 }
+    requires lanes { HaveLanes count H.count }
     requires within { (k : ℕ) → k < 16 → length (buffer_at windows.now k) ≡ len }
     ensures { (k : ℕ) → k < count → digest_at result k ≡ md5 (buffer_at windows.now k) }
 {

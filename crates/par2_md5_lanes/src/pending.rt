@@ -4,6 +4,7 @@
 ghost use Rattle.std.specs.Prelude.{◌≡◌, ◌≤◌, ◌<◌, ◌++◌, [], None, ℕ, List, length, get_or, map, slice_index_or, IfOk, OnOk};
 ghost use Rattle.md5.specs.Md5.{md5};
 ghost use Rattle.par2_md5_lanes.specs.Feeds.{bytes_left};
+ghost use Rattle.par2_md5_lanes.specs.Lanes.{HaveLanes};
 ghost use Rattle.par2_md5_lanes.specs.Messages.{HasAbsorbed, message_of};
 ghost use Rattle.par2_md5_lanes.specs.Pendings.{bytes_to_absorb, Absorb, IsBegun, TakeAll};
 ghost use Rattle.par2_md5_lanes.specs.Tasks.{HasTaken};
@@ -33,9 +34,8 @@ const HASH_LEN: usize = 16;
 
 // The hash values of the states before their parts, that of state k in lane k. Other lanes have no meaning.
 fn hashes_of<H: Hashes>(pendings: &[Pending]) -> H
-    requires lanes { H.count ≤ 16 }
-    requires few { length pendings.now ≤ 16 }
-    ensures { (k : ℕ) (m : List ℕ) (none : Pending) → k < H.count → k < length pendings.now
+    requires { HaveLanes (length pendings.now) H.count }
+    ensures { (k : ℕ) (m : List ℕ) (none : Pending) → k < length pendings.now
         → let state = (get_or pendings.now k none).state in
         HasAbsorbed state m → H.at k result ≡ state.hash }
 {
@@ -94,11 +94,9 @@ fn state_behind(pending: &Pending, task: &LaneTask) -> Midstate
     }
 }
 
-// Each state after ("behind") the parts of its message, computed in as many lanes as `H` has. The clause `few` bounds
-// the number of lanes.
+// Each state after ("behind") the parts of its message, computed in as many lanes as `H` has.
 fn states_behind<'a, H: Hashes>(pendings: &'a [Pending<'a>]) -> [Midstate; LANES]
-    requires lanes { length pendings.now ≤ H.count }
-    requires few { H.count ≤ 16 }
+    requires { HaveLanes (length pendings.now) H.count }
     ensures { Absorb pendings.now result }
 {
     let mut tasks = tasks_of(pendings);

@@ -27,8 +27,7 @@ fn word(bytes: &[u8], at: usize) -> u32
 // The word at byte `offset` of each of the first N buffers, read one by one: for other N than four and eight.
 #[inline(always)]
 fn gathered_words<const N: usize>(buffers: &[&[u8]], offset: usize) -> Simd<u32, N>
-    requires enough { N ≤ length buffers.now }
-    requires within { Have N (offset + 4) buffers.now }
+    requires { Have N (offset + 4) buffers.now }
     ensures { (k : ℕ) → k < N → slice_index result k ≡ word_at (buffer_at buffers.now k) offset }
 {
     let mut words = [0; N];
@@ -61,10 +60,7 @@ fn row(buffers: &[&[u8]], k: usize, offset: usize) -> u32x4
 // parameter, so a generic function does.
 #[inline(always)]
 fn state_of<V: Copy>(a: V, b: V, c: V, d: V) -> HashState<V>
-    ensures a { result.a ≡ a }
-    ensures b { result.b ≡ b }
-    ensures c { result.c ≡ c }
-    ensures d { result.d ≡ d }
+    ensures { result ≡ record { a = a; b = b; c = c; d = d } }
 {
     HashState { a, b, c, d }
 }
@@ -72,8 +68,7 @@ fn state_of<V: Copy>(a: V, b: V, c: V, d: V) -> HashState<V>
 // The four words from byte `offset` on of each of four buffers: their rows, transposed.
 #[inline(always)]
 fn words_of_four(buffers: &[&[u8]], offset: usize) -> HashState<u32x4>
-    requires enough { 4 ≤ length buffers.now }
-    requires within { Have 4 (offset + 16) buffers.now }
+    requires { Have 4 (offset + 16) buffers.now }
     ensures { AreFourWords 4 slice_index buffers.now offset result }
 {
     let (even_low, even_high) = row(buffers, 0, offset).interleave(row(buffers, 2, offset));
@@ -87,8 +82,7 @@ fn words_of_four(buffers: &[&[u8]], offset: usize) -> HashState<u32x4>
 #[inline(always)]
 fn pair(buffers: &[&[u8]], k: usize, offset: usize) -> u32x8
     requires place { k < 4 }
-    requires enough { 8 ≤ length buffers.now }
-    requires within { Have 8 (offset + 16) buffers.now }
+    requires rows { Have 8 (offset + 16) buffers.now }
     ensures { result ≡ four_words_at (buffer_at buffers.now k) offset
         ++ four_words_at (buffer_at buffers.now (k + 4)) offset }
 {
@@ -99,8 +93,7 @@ fn pair(buffers: &[&[u8]], k: usize, offset: usize) -> u32x8
 // AVX2 does in one instruction.
 #[inline(always)]
 fn words_of_eight(buffers: &[&[u8]], offset: usize) -> HashState<u32x8>
-    requires enough { 8 ≤ length buffers.now }
-    requires within { Have 8 (offset + 16) buffers.now }
+    requires { Have 8 (offset + 16) buffers.now }
     ensures { AreFourWords 8 slice_index buffers.now offset result }
 {
     let (a, b) = (pair(buffers, 0, offset), pair(buffers, 1, offset));
@@ -131,9 +124,7 @@ pub(crate) fn four_words<const N: usize>(
     buffers: &[&[u8]],
     offset: usize,
 ) -> HashState<Simd<u32, N>>
-    requires enough { N ≤ length buffers.now }
-    requires room { offset + 16 < 2 ^ 64 }
-    requires within { Have N (offset + 16) buffers.now }
+    requires { Have N (offset + 16) buffers.now }
     ensures { AreFourWords N slice_index buffers.now offset result }
 {
     if N == 8 {

@@ -4,7 +4,7 @@
 
 ghost use Rattle.std.specs.Prelude.{◌≡◌, ◌≤◌, ◌<◌, ◌*◌, ◌-◌, ◌^◌, ℕ, List, IsTrue, length, take, drop, get_or};
 ghost use Rattle.par2_md5_lanes.specs.Feeds.{hash_behind};
-ghost use Rattle.par2_md5_lanes.specs.Lanes.{Have};
+ghost use Rattle.par2_md5_lanes.specs.Lanes.{Have, HaveLanes};
 ghost use Rattle.par2_md5_lanes.specs.Tasks.{work, works, HasBlocks, HasEnded, HaveLess, HaveNoMore, AllEndIn, EndsInAfter, EndsIn};
 ghost use Rattle.par2_md5_lanes.specs.Buffers.{buffer_at};
 ghost use Rattle.par2_md5_lanes.specs.declared.tasks.LaneTask.{LaneTask};
@@ -122,7 +122,7 @@ fn take_all<'a>(
     ensures shrinks { 0 < batch → HaveLess count tasks.old tasks.new }
     // All sixteen lanes have blocks to absorb.
     ensures room { Have 16 (batch * 64) result }
-    ensures sizes { (length tasks.new ≡ 16) × (length result ≡ 16) }
+    ensures size { length tasks.new ≡ 16 }
 {
     let mut ahead = tasks[unfinished].feed;
     let others = ahead.take_at_hand(batch);
@@ -142,8 +142,7 @@ fn advance_all<H: Hashes>(
     state: &H,
     count: usize,
 )
-    requires lanes { count ≤ H.count }
-    requires few { count ≤ 16 }
+    requires { HaveLanes count H.count }
     ensures leads { (k : ℕ) (none : LaneTask) (last rest : List ℕ) → k < count
         → let hash = H.at k state.now in EndsIn (get_or tasks.old k none) hash last rest
         → let block = take 64 (drop (64 * k) blocks.new) in
@@ -171,8 +170,7 @@ fn has_company(tasks: &[LaneTask], count: usize, k: usize) -> bool
 // or all messages after it have ended.
 fn go_on<H: Hashes>(tasks: &mut [LaneTask; LANES], state: H, count: usize, k: usize) -> H
     // Message k is one of the messages in lanes.
-    requires lanes { count ≤ H.count }
-    requires few { H.count ≤ 16 }
+    requires lanes { HaveLanes count H.count }
     requires within { k < count }
     // From the new hash values, each message ends as it would have from the old ones. None has more work left.
     ensures leads { AllEndIn H.at count tasks.old state tasks.new result }
@@ -197,8 +195,7 @@ fn go_on<H: Hashes>(tasks: &mut [LaneTask; LANES], state: H, count: usize, k: us
 /// Absorbs all blocks of the first `count` messages, after `state`. The blocks of a message go beside others while
 /// there are any. The rest goes by itself, which is faster than with all lanes.
 pub(crate) fn finish_all<H: Hashes>(tasks: &mut [LaneTask; LANES], state: H, count: usize)
-    requires lanes { count ≤ H.count }
-    requires few { H.count ≤ 16 }
+    requires { HaveLanes count H.count }
     ensures { (k : ℕ) (none : LaneTask) (last rest : List ℕ) → k < count
         → EndsIn (get_or tasks.old k none) (H.at k state) last rest
         → HasEnded (get_or tasks.new k none) last rest }

@@ -26,7 +26,7 @@ pub use Rattle.par2_md5_lanes.specs.Digests.{digest_at}
 pub use Rattle.par2_slices.specs.Filters.{AreAlike, Groups, IsLong, HasBit, Includes, Summarizes}
 pub use Rattle.par2_slices.specs.Intact.{HaveCrc32s, HaveMd5s}
 pub use Rattle.par2_slices.specs.Matching.{Describe, Describes, IsFirst, NumbersAreNames, first_intact, matched_from, matched_numbers, listed_at, without_number}
-pub use Rattle.par2_slices.specs.Pairs.{first_pairs}
+pub use Rattle.par2_slices.specs.Pairs.{AreMd5s, first_pairs}
 pub use Rattle.par2_slices.specs.Rolls.{IsLeaving, Roll}
 unfoldable pub use Rattle.par2_slices.specs.Rolls.{after_slide, leaving}
 pub use Rattle.par2_slices.specs.Rows.{AreCrcs, AreCandidateRows, IsNoted, crc_in, no_row, row_at}

@@ -117,7 +117,7 @@ names_left names (i ∷ free) (Some taken) distinct below low =
     ∙ ap (λ b. cond b (name ∷ map (listed_at names) rest) (map (listed_at names) rest)) same
     ∙ sym (map-cond (listed_at names) (not (i == taken)) i rest)
 
-left_below : (n : ℕ) (free : List ℕ) (taken : Option ℕ) → AreBelow n free → AreBelow n (without_number taken free)
+pub left_below : (n : ℕ) (free : List ℕ) (taken : Option ℕ) → AreBelow n free → AreBelow n (without_number taken free)
 left_below n free None below = below
 left_below n free (Some taken) below = All-filter (λ i. not (i == taken)) (λ i. i < n) free below
 

@@ -1,5 +1,5 @@
 -- The contents of buffers and windows, without where they are in memory.
-use Rattle.std.specs.Prelude.{◌≡◌, ◌≤◌, ◌<◌, ℕ, List, length, map, Option, IfSome, option_map}
+use Rattle.std.specs.Prelude.{◌≤◌, ◌<◌, ℕ, List, length, map, Option, IfSome, option_map}
 use Rattle.std.specs.Borrow.{Bor}
 use Rattle.std.specs.List.{All}
 use Rattle.par2_spec.specs.Slices.{padded}
@@ -31,15 +31,3 @@ pub record IsWithin (buffers : List (List ℕ)) (position : Position) : Type 0 w
 -- the window at a position
 abbrev pub window_in : ℕ → List (List ℕ) → Position → List ℕ
 window_in s buffers position = window s (listed_at buffers position.buffer) position.offset
-
--- the position, if there is one, is in one of the buffers
-abbrev pub IsInBuffers : List (List ℕ) → Option Position → Type 0
-IsInBuffers buffers position = IfSome position (IsWithin buffers)
-
--- the window is the one at the position
-abbrev pub IsWindowAt : ℕ → List (List ℕ) → Option Position → Window → Type 0
-IsWindowAt s buffers position window = padded_window s window ≡ option_map (window_in s buffers) position
-
--- the window is not longer than s bytes
-abbrev pub IsShort : ℕ → Window → Type 0
-IsShort s window = IfSome window (λ bytes. length bytes.now ≤ s)

@@ -64,3 +64,9 @@ pub record IsScannedTo (scan : Scan) (offset : ℕ) (found : List (Option Positi
 -- the offsets below `offset` are searched; matches may still be in the batch (IsScannedTo, for the fields of a search)
 abbrev pub IsSearching : Scan → ℕ → Search → Type 0
 IsSearching scan offset search = IsScannedTo scan offset search.found.items search.left search.filter search.batch.items
+
+-- the search is at a window of the buffer that has this checksum
+pub record IsAtWindow (scan : Scan) (offset value : ℕ) (search : Search) : Type 0 where
+  pub at : IsSearching scan offset search
+  pub within : offset < length scan.bytes.now
+  pub crc : value ≡ crc_of scan offset

@@ -23,16 +23,14 @@ pub(crate) struct Candidate {
     pub(crate) crc: u32,
 }
 
-// The offsets of the candidates, at most sixteen, one for each lane. Unused lanes repeat the first one.
+// The offsets of the candidates, at most sixteen, one for each lane. Unused lanes have offset 0.
 fn starts(batch: &[Candidate]) -> [usize; LANES]
-    requires some { 1 ≤ length batch.now }
-    requires fit { length batch.now ≤ 16 }
+    requires { length batch.now ≤ 16 }
     ensures own { (k : ℕ) → k < length batch.now
         → slice_index result k ≡ (candidate_at batch.now k).position.offset }
-    ensures left { (k : ℕ) → k < 16 → length batch.now ≤ k
-        → slice_index result k ≡ (candidate_at batch.now 0).position.offset }
+    ensures left { (k : ℕ) → k < 16 → length batch.now ≤ k → slice_index result k ≡ 0 }
 {
-    let mut starts = [batch[0].position.offset; LANES];
+    let mut starts = [0; LANES];
     for (k, candidate) in batch.iter().enumerate() {
         starts[k] = candidate.position.offset;
     }

@@ -116,18 +116,12 @@ pub(crate) fn power_of_x(count: u64) -> u32
     power
 }
 
-// The remainder after `count` more zero bytes, the padding: one product instead of `count` steps.
-fn after_zeros(remainder: u32, count: u64) -> u32
-    ensures { result ≡ steps (8 * count) remainder }
-{
-    multiply(remainder, power_of_x(count))
-}
-
 /// The CRC-32 of the bytes, padded with zeros to `s` bytes, as the checksum of a last slice is.
 pub fn padded_crc32(bytes: &[u8], s: u64) -> u32
     requires { length bytes.now ≤ s }
     ensures { result ≡ spec.crc32 (padded s bytes.now) }
 {
     let missing = s - bytes.len() as u64;
-    after_zeros(after_bytes(0xFFFF_FFFF, bytes), missing) ^ 0xFFFF_FFFF
+    // One product instead of a step for each zero.
+    multiply(after_bytes(0xFFFF_FFFF, bytes), power_of_x(missing)) ^ 0xFFFF_FFFF
 }

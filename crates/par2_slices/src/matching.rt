@@ -11,17 +11,26 @@ ghost use Rattle.par2_slices.specs.Matching.{AreFirst, Describe, Describes, IsFi
 ghost use Rattle.par2_slices.specs.Positions.{buffers_of};
 
 use crate::cutting::slice_count;
-use crate::pairs::{Pair, slice_crc32, slice_md5s};
+use crate::pairs::{Pair, SliceGroup, slice_crc32, slice_md5s};
 use par2_md5_lanes::LANES;
 use par2_spec::Result;
 use std::alloc::Global;
 
+// A file, and the pairs that its first slices of `s` bytes are to have.
+#[derive(Clone, Copy)]
+struct Comparison<'a> {
+    bytes: &'a [u8],
+    s: u64,
+    pairs: &'a [Pair],
+    ghost some: { 1 ≤ s },
+    ghost count: { length pairs.now ≤ slices.slice_count s (length bytes.now) },
+}
+
 // Whether each pair j has the CRC-32 of slice j of the file. `is_intact` asks this first.
-fn have_crc32s(bytes: &[u8], s: u64, pairs: &[Pair]) -> bool
-    requires size { 1 ≤ s }
-    requires count { length pairs.now ≤ slices.slice_count s (length bytes.now) }
-    ensures { IsTrue result ↔ HaveCrc32s s bytes.now pairs.now }
+fn have_crc32s(compared: Comparison) -> bool
+    ensures { let its = compared.entry in IsTrue result ↔ HaveCrc32s its.s its.bytes.now its.pairs.now }
 {
+    let Comparison { bytes, s, pairs } = compared;
     for (j, pair) in pairs.iter().enumerate() {
         if slice_crc32(bytes, s, j as u64) != pair.1 {
             return false;
@@ -30,15 +39,14 @@ fn have_crc32s(bytes: &[u8], s: u64, pairs: &[Pair]) -> bool
     true
 }
 
-// Whether `count` pairs from pair `first` on, at most sixteen, have the MD5s of the slices with their numbers.
-fn group_has_md5s(bytes: &[u8], s: u64, pairs: &[Pair], first: usize, count: usize) -> bool
-    requires size { 1 ≤ s }
-    requires few { count ≤ 16 }
-    requires pairs { first + count ≤ length pairs.now }
-    requires slices { length pairs.now ≤ slices.slice_count s (length bytes.now) }
-    ensures { IsTrue result ↔ HaveMd5s s bytes.now pairs.now first (first + count) }
+// Whether the pairs with the numbers of these slices have their MD5s.
+fn group_has_md5s(group: SliceGroup, pairs: &[Pair]) -> bool
+    requires { group.first + group.count ≤ length pairs.now }
+    ensures { let its = group.entry in
+        IsTrue result ↔ HaveMd5s its.s its.bytes.now pairs.now its.first (its.first + its.count) }
 {
-    let md5s = slice_md5s(bytes, s, first, count);
+    let SliceGroup { first, count, .. } = group;
+    let md5s = slice_md5s(group);
     for lane in 0..count {
         if md5s[lane] != pairs[first + lane].0 {
             return false;
@@ -48,14 +56,15 @@ fn group_has_md5s(bytes: &[u8], s: u64, pairs: &[Pair], first: usize, count: usi
 }
 
 // Whether each pair j has the MD5 of slice j of the file, sixteen side by side.
-fn have_md5s(bytes: &[u8], s: u64, pairs: &[Pair]) -> bool
-    requires size { 1 ≤ s }
-    requires count { length pairs.now ≤ slices.slice_count s (length bytes.now) }
-    ensures { IsTrue result ↔ HaveMd5s s bytes.now pairs.now 0 (length pairs.now) }
+fn have_md5s(compared: Comparison) -> bool
+    ensures { let its = compared.entry in
+        IsTrue result ↔ HaveMd5s its.s its.bytes.now its.pairs.now 0 (length its.pairs.now) }
 {
+    let Comparison { bytes, s, pairs } = compared;
     for group in 0..pairs.len().div_ceil(LANES) {
         let first = group * LANES;
-        if !group_has_md5s(bytes, s, pairs, first, LANES.min(pairs.len() - first)) {
+        let count = LANES.min(pairs.len() - first);
+        if !group_has_md5s(SliceGroup { bytes, s, first, count }, pairs) {
             return false;
         }
     }
@@ -74,8 +83,9 @@ pub fn is_intact(bytes: &[u8], s: u64, size: u64, pairs: &[Pair]) -> bool
     }
     let count = pairs.len().min(slice_count(size, s) as usize);
     let pairs = &pairs[..count];
+    let compared = Comparison { bytes, s, pairs };
     // All CRC-32s are compared first, because one of them reveals damage before any MD5 is computed.
-    have_crc32s(bytes, s, pairs) && have_md5s(bytes, s, pairs)
+    have_crc32s(compared) && have_md5s(compared)
 }
 
 /// A target: the length of its file and the checksums of its slices.
@@ -135,21 +145,24 @@ fn is_intact_by(bytes: &[u8], first: Option<u32>, s: u64, target: &Target) -> bo
     is_intact(bytes, s, target.length, target.pairs)
 }
 
-// The number of the first of the free buffers that is intact for the target. `Describes`: a target has this length and
-// these pairs.
-fn first_intact(
-    buffers: &[&[u8]],
-    firsts: &[Option<u32>],
+// The files that are compared with targets, with the CRC-32s of their first slices.
+#[derive(Clone, Copy)]
+struct Candidates<'a> {
+    buffers: &'a [&'a [u8]],
+    firsts: &'a [Option<u32>],
     s: u64,
-    target: &Target,
-    free: &[usize],
-) -> Option<usize>
-    requires size { 1 ≤ s }
-    requires firsts { AreFirst s (buffers_of buffers.now) firsts.now }
-    requires free { All (λ i. i < length buffers.now) free.now }
+    ghost some: { 1 ≤ s },
+}
+
+// The number of the first of the free files that is intact for the target. `Describes`: a target has this length
+// and these pairs.
+fn first_intact(files: Candidates, target: &Target, free: &[usize]) -> Option<usize>
+    requires firsts { AreFirst files.s (buffers_of files.buffers.now) files.firsts.now }
+    requires free { All (λ i. i < length files.buffers.now) free.now }
     ensures { (t : sets.Target) → Describes target.now t
-        → result ≡ first_intact s (buffers_of buffers.now) t free.now }
+        → result ≡ first_intact files.entry.s (buffers_of files.entry.buffers.now) t free.now }
 {
+    let Candidates { buffers, firsts, s } = files;
     for &i in free {
         if is_intact_by(buffers[i], firsts[i], s, target) {
             return Some(i);
@@ -158,25 +171,16 @@ fn first_intact(
     None
 }
 
-// Takes the number of the first of the free buffers that is intact for the target, so that no other target gets it.
-fn take_first(
-    buffers: &[&[u8]],
-    firsts: &[Option<u32>],
-    s: u64,
-    target: &Target,
-    free: &mut Vec<usize>,
-) -> Option<usize>
-    // Each free number is that of a buffer, and `firsts` has the CRC-32s of the first slices.
-    requires size { 1 ≤ s }
-    requires firsts { AreFirst s (buffers_of buffers.now) firsts.now }
-    requires free { All (λ i. i < length buffers.now) free.old.items }
-    // It returns the first free buffer that is intact for the target, and removes it from `free`.
-    ensures free { All (λ i. i < length buffers.now) free.new.items }
+// Takes the number of the first of the free files that is intact for the target, so that no other target gets it.
+fn take_first(files: Candidates, target: &Target, free: &mut Vec<usize>) -> Option<usize>
+    requires firsts { AreFirst files.s (buffers_of files.buffers.now) files.firsts.now }
+    requires free { All (λ i. i < length files.buffers.now) free.old.items }
     ensures first { (t : sets.Target) → Describes target.now t
-        → result ≡ first_intact s (buffers_of buffers.now) t free.old.items }
+        → let bytes = buffers_of files.entry.buffers.now in
+        result ≡ first_intact files.entry.s bytes t free.old.items }
     ensures left { free.new.items ≡ without_number result free.old.items }
 {
-    let first = first_intact(buffers, firsts, s, target, free)?;
+    let first = first_intact(files, target, free)?;
     free.retain(move |&i| i != first);
     Some(first)
 }
@@ -193,10 +197,15 @@ pub fn matched(
         → numbers.items ≡ matched_numbers s (buffers_of buffers.now) ts) }
 {
     let firsts = first_crc32s(alloc, buffers, s, targets)?;
+    let files = Candidates {
+        buffers,
+        firsts: &firsts,
+        s,
+    };
     let mut free = numbers_below(alloc, buffers.len())?;
     let mut numbers = Vec::with_capacity(alloc, targets.len())?;
     for target in targets {
-        numbers.push(take_first(buffers, &firsts, s, target, &mut free))?;
+        numbers.push(take_first(files, target, &mut free))?;
     }
     Ok(numbers)
 }

@@ -3,10 +3,9 @@
 
 ghost use Rattle.std.specs.Prelude.{◌≡◌, ◌≤◌, ◌<◌, ◌+◌, ◌-◌, ◌*◌, ◌^◌, ◌++◌, min, ℕ, IfOk, OnOk, length, map, slice_index};
 ghost use Rattle.md5.specs.Md5.{Holds, md5};
-ghost use Rattle.par2_md5_lanes.specs.Digests.{digest_at};
 ghost use Rattle.par2_spec.specs.Checksums as checksums;
 ghost use Rattle.par2_spec.specs.Slices.{padded, slice_at, slice_count, slices};
-ghost use Rattle.par2_slices.specs.Pairs.{first_pairs};
+ghost use Rattle.par2_slices.specs.Pairs.{AreMd5s, first_pairs};
 
 use crate::checksum::{crc32, padded_crc32};
 use crate::cutting::{slice_bytes, slice_count};
@@ -46,6 +45,19 @@ pub fn pair_of(bytes: &[u8], s: u64) -> Pair
     (padded_md5(bytes, s), padded_crc32(bytes, s))
 }
 
+/// At most sixteen slices of `s` bytes of a file, from slice `first` on: as many as there are MD5 lanes.
+#[derive(Clone, Copy)]
+pub(crate) struct SliceGroup<'a> {
+    pub(crate) bytes: &'a [u8],
+    pub(crate) s: u64,
+    pub(crate) first: usize,
+    pub(crate) count: usize,
+    ghost some: { 1 ≤ s },
+    ghost few: { count ≤ 16 },
+    ghost fits: { first + count < 2 ^ 64 },
+    ghost within: { first + count ≤ slice_count s (length bytes.now) },
+}
+
 /// The CRC-32 of slice `j` of a file, with its padding.
 pub(crate) fn slice_crc32(bytes: &[u8], s: u64, j: u64) -> u32
     requires size { 1 ≤ s }
@@ -71,50 +83,42 @@ fn starts_from(first: usize, count: usize, s: usize) -> [usize; LANES]
     array::from_fn(|lane| (first + lane.min(count - 1)) * s)
 }
 
-// The MD5s of `count` whole slices from slice `first` on, at most sixteen, side by side.
-fn whole_md5s(bytes: &[u8], s: usize, first: usize, count: usize) -> [[u8; 16]; LANES]
-    requires size { 1 ≤ s }
-    requires few { count ≤ 16 }
-    requires whole { 1 ≤ count → (first + count) * s ≤ length bytes.now }
-    ensures { (k : ℕ) → k < count → digest_at result k ≡ md5 (slice_at s bytes.now (first + k)) }
+// The MD5s of the first `count` slices of the group, which are whole, side by side. Unused lanes repeat the last one.
+fn whole_md5s(group: SliceGroup, count: usize) -> [[u8; 16]; LANES]
+    requires own { count ≤ group.count }
+    requires whole { 1 ≤ count → (group.first + count) * group.s ≤ length group.bytes.now }
+    ensures { AreMd5s group.entry.s group.entry.bytes.now group.entry.first count result }
 {
+    let SliceGroup { bytes, s, first, .. } = group;
     if count == 0 {
         return [[0; 16]; LANES];
     }
+    let s = s as usize;
     window_digests(bytes, &starts_from(first, count, s), count, s)
 }
 
-/// The MD5s of `count` slices from slice `first` on, at most sixteen, each with its padding. Other lanes have no
-/// meaning.
-pub(crate) fn slice_md5s(bytes: &[u8], s: u64, first: usize, count: usize) -> [[u8; 16]; LANES]
-    requires size { 1 ≤ s }
-    requires few { count ≤ 16 }
-    requires fits { first + count < 2 ^ 64 }
-    requires slices { first + count ≤ slice_count s (length bytes.now) }
-    ensures { (k : ℕ) → k < count → digest_at result k ≡ md5 (slice_at s bytes.now (first + k)) }
+/// The MD5s of the slices of the group, each with its padding. Other lanes have no meaning.
+pub(crate) fn slice_md5s(group: SliceGroup) -> [[u8; 16]; LANES]
+    ensures { let its = group.entry in AreMd5s its.s its.bytes.now its.first its.count result }
 {
+    let SliceGroup { bytes, s, first, count } = group;
     let whole = (bytes.len() as u64 / s) as usize;
     let together = count.min(whole.saturating_sub(first));
-    let mut md5s = whole_md5s(bytes, s as usize, first, together);
+    let mut md5s = whole_md5s(group, together);
     for k in together..count {
         md5s[k] = padded_md5(slice_bytes(bytes, s, (first + k) as u64), s);
     }
     md5s
 }
 
-// Appends the checksums of `count` slices from slice `first` on, at most sixteen, to those of the slices before them.
-fn push_group(pairs: &mut Vec<Pair>, bytes: &[u8], s: u64, first: usize, count: usize) -> Result<()>
-    // The pairs are those of the slices before `first`.
-    requires before { pairs.old.items ≡ first_pairs s bytes.now first }
-    // The file has these slices, and they are at most as many as there are MD5 lanes.
-    requires size { 1 ≤ s }
-    requires few { count ≤ 16 }
-    requires fits { first + count < 2 ^ 64 }
-    requires slices { first + count ≤ slice_count s (length bytes.now) }
-    // Afterwards the pairs are those of the slices before `first + count`.
-    ensures { OnOk result (pairs.new.items ≡ first_pairs s bytes.now (first + count)) }
+// Appends the checksums of the slices of the group to those of the slices before them.
+fn push_group(pairs: &mut Vec<Pair>, group: SliceGroup) -> Result<()>
+    requires { pairs.old.items ≡ first_pairs group.s group.bytes.now group.first }
+    ensures { let its = group.entry in
+        OnOk result (pairs.new.items ≡ first_pairs its.s its.bytes.now (its.first + its.count)) }
 {
-    let md5s = slice_md5s(bytes, s, first, count);
+    let SliceGroup { bytes, s, first, count } = group;
+    let md5s = slice_md5s(group);
     for k in 0..count {
         pairs.push((md5s[k], slice_crc32(bytes, s, (first + k) as u64)))?;
     }
@@ -130,7 +134,8 @@ pub fn pairs_of(alloc: Global, bytes: &[u8], s: u64) -> Result<Vec<Pair>>
     let mut pairs = Vec::with_capacity(alloc, count)?;
     for group in 0..count.div_ceil(LANES) {
         let first = group * LANES;
-        push_group(&mut pairs, bytes, s, first, LANES.min(count - first))?;
+        let count = LANES.min(count - first);
+        push_group(&mut pairs, SliceGroup { bytes, s, first, count })?;
     }
     Ok(pairs)
 }

@@ -9,7 +9,7 @@ ghost use Rattle.par2_spec.specs.Answers.{Lists};
 ghost use Rattle.par2_spec.specs.Checksums.{crc32};
 ghost use Rattle.par2_spec.specs.Windows.{first_match, window};
 ghost use Rattle.par2_slices.specs.Rows.{AreCandidateRows};
-ghost use Rattle.par2_slices.specs.Scans.{crc_of, after_candidates, AreWindows, IsSearching, IsTallied, IsWhole};
+ghost use Rattle.par2_slices.specs.Scans.{after_candidates, AreWindows, IsAtWindow, IsSearching, IsTallied, IsWhole};
 ghost use Rattle.par2_slices.specs.Searches.{after_window, candidate_at, has_checksums, is_awaited, answer_at, pair_at, pair_place_at, first_position, AreOpen, ArePlaces, HaveAnswers, IsWaiting};
 
 use crate::batch::{Candidate, Position, batch_md5s};
@@ -181,10 +181,7 @@ impl Search {
     // Adds the window at `offset`, whose CRC-32 `pairs` open pairs have, to the batch. A window that reaches past the
     // end of the file is compared at once, because the batch has whole windows only.
     fn add_candidate(&mut self, scan: &Scan, offset: usize, crc: u32, pairs: usize)
-        // The offsets before this one have been searched, and `crc` is that of the window here.
-        requires at { IsSearching scan.now offset self.old }
-        requires within { offset < length scan.now.bytes.now }
-        requires crc { crc ≡ crc_of scan.now offset }
+        requires window { IsAtWindow scan.now offset crc self.old }
         // The batch has room, and it is empty if the window reaches past the end.
         requires room { length self.old.batch.items < 16 }
         requires short { ¬ (IsWhole scan.now offset) → self.old.batch.items ≡ [] }
@@ -213,9 +210,7 @@ impl Search {
     #[cold]
     #[inline(never)]
     fn look(&mut self, scan: &Scan, offset: usize, crc: u32)
-        requires at { IsSearching scan.now offset self.old }
-        requires within { offset < length scan.now.bytes.now }
-        requires crc { crc ≡ crc_of scan.now offset }
+        requires { IsAtWindow scan.now offset crc self.old }
         ensures { IsSearching scan.now (offset + 1) self.new }
     {
         self.make_room(scan, offset, crc);
@@ -228,9 +223,7 @@ impl Search {
     // Takes the search past `offset`; looks only if the filter contains `crc`. Its contract is that of `look`, because
     // a window whose CRC-32 the filter doesn't contain matches no open pair, so that nothing is to be done for it.
     fn test(&mut self, scan: &Scan, offset: usize, crc: u32)
-        requires at { IsSearching scan.now offset self.old }
-        requires within { offset < length scan.now.bytes.now }
-        requires crc { crc ≡ crc_of scan.now offset }
+        requires { IsAtWindow scan.now offset crc self.old }
         ensures { IsSearching scan.now (offset + 1) self.new }
     {
         if self.filter.contains(crc) {

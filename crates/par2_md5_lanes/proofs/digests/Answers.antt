@@ -1,6 +1,7 @@
-use Rattle.par2_md5_lanes.proofs.Common.{below_more, get_or-set_other, get_or-set_same, length-set, digest_bytes, md5, [], ◌∷◌, List, get_or, get_or-replicate, replicate, four_words_at, refl, ◌≡◌, ◌+◌, ◌*◌, ◌/◌, ◌++◌, ◌<◌, ℕ, ap, sym, arith, length, take, drop, ◌∙◌, padded_message, padding, hash_after, hash_behind, tail_len, tail_of, take-take, buffer_at}
+use Rattle.par2_md5_lanes.proofs.Common.{below_more, get_or-set_other, get_or-set_same, length-set, digest_bytes, md5, [], get_or-replicate, refl, ◌≡◌, ◌+◌, ◌*◌, ◌/◌, ◌++◌, ◌<◌, ℕ, ap, sym, arith, length, take, drop, ◌∙◌, padded_message, padding, hash_after, hash_behind, tail_len, tail_of, take-take, buffer_at}
 use Rattle.par2_md5_lanes.proofs.FeedLaws.{message_goes_on}
 use Rattle.par2_md5_lanes.proofs.PendingLaws.{hash_in_bytes}
+use Rattle.par2_md5_lanes.proofs.SixteenLaws.{have_parts}
 use Rattle.par2_md5_lanes.proofs.TailLaws.{all_blocks, last_blocks, whole_blocks}
 use Rattle.par2_md5_lanes.proofs.digests.Goals as goal
 
@@ -8,12 +9,7 @@ pub absorbed-hashes-requires : goal.absorbed-hashes-requires
 absorbed-hashes-requires g c =
     let few = c.tail_blocks.ensures.few in
     let room : 16 * 128 ≡ length c.tails_of_windows-tails.result = sym c.tails_of_windows-tails.ensures.size in
-    record {
-      few = c.requires.few;
-      enough = omega (arith, c.sixteenths.ensures.count, c.requires.few);
-      room = omega (arith, few);
-      within = λ k low. omega (arith, few, c.sixteenths.ensures.sizes k 128 (omega (arith, low, c.requires.few)) room);
-    }
+    have_parts _ _ 128 _ _ c.sixteenths.ensures room c.requires.lanes.few (omega (arith, few)) (omega (arith, few))
 
 pub loop-k-preserved : goal.loop-k-preserved
 loop-k-preserved g c = grind (arith, length-set, below_more, get_or-set_other, get_or-set_same, digest_bytes)
@@ -21,8 +17,8 @@ loop-k-preserved g c = grind (arith, length-set, below_more, get_or-set_other, g
 pub returns : goal.returns
 unfolding hash_after md5
 returns g c = λ k own.
-    let within : k < g.H.Hashes.count = omega (arith, own, c.requires.lanes) in
-    let low : k < 16 = omega (arith, within, c.requires.few) in
+    let within : k < g.H.Hashes.count = omega (arith, own, c.requires.lanes.own) in
+    let low : k < 16 = omega (arith, within, c.requires.lanes.few) in
     let m = buffer_at c.args.windows.now k in
     let len = c.args.len in
     let pad = padding len in

@@ -2,6 +2,7 @@ use Rattle.par2_md5_lanes.proofs.Common.{buffer_at, ◌<◌, ◌≡◌, ◌≤�
 use Rattle.std.proofs.lemmas.List.{length-drop}
 use borrow.Rule.Slice.PartMut.{put_mid, same_len_mid}
 use Rattle.par2_md5_lanes.proofs.PendingLaws.{hash_in_bytes}
+use Rattle.par2_md5_lanes.proofs.SixteenLaws.{have_parts}
 use Rattle.par2_md5_lanes.proofs.TailLaws.{tail_before}
 use Rattle.par2_md5_lanes.proofs.TaskLaws.{blocks_at}
 use Rattle.par2_md5_lanes.proofs.pending.hashes_of.Goals as goal
@@ -15,7 +16,7 @@ loop-k-preserved g c =
     let start : ℕ = 16 * k in
     let len : ℕ = start + 16 - start in
     let sixteen : len ≡ 16 = omega arith in
-    let room : start + len ≤ length bytes = omega (arith, held.size, c.loop-k-test.true, c.requires.few) in
+    let room : start + len ≤ length bytes = omega (arith, held.size, c.loop-k-test.true, c.requires.own, c.requires.few) in
     let size : length hash ≡ len = c.copy_from_slice.ensures.len ∙ length-take-le len (drop start bytes) (omega (arith, room, length-drop start bytes)) in
     record {
       size = same_len_mid start len bytes hash c.copy_from_slice.ensures.len ∙ held.size;
@@ -35,16 +36,12 @@ loop-k-preserved g c =
     }
 
 pub returns : goal.returns
-returns g c = λ k m none low within held.
-    let few : k < 16 = omega (arith, low, c.requires.lanes) in
+returns g c = λ k m none low held.
+    let own : k < g.H.Hashes.count = omega (arith, low, c.requires.own) in
+    let few : k < 16 = omega (arith, own, c.requires.few) in
     let room : 16 * 16 ≡ length c.loop-k.bytes = sym c.loop-k.invariant.size in
     let here = c.sixteenths.ensures.parts k 16 few room ∙ c.loop-k.invariant.done k none (omega (arith, c.loop-k-test.false)) in
-    hash_in_bytes (buffer_at c.sixteenths.result k) (get_or c.args.pendings.now k none).state.hash m _ _ here held.1.0 (c.read.ensures k low)
+    hash_in_bytes (buffer_at c.sixteenths.result k) (get_or c.args.pendings.now k none).state.hash m _ _ here held.1.0 (c.read.ensures k own)
 
 pub read-requires : goal.read-requires
-read-requires g c =
-    let room : 16 * 16 ≡ length c.loop-k.bytes = sym c.loop-k.invariant.size in
-    record {
-      enough = omega (arith, c.sixteenths.ensures.count, c.requires.lanes);
-      within = λ k low. omega (arith, c.sixteenths.ensures.sizes k 16 (omega (arith, low, c.requires.lanes)) room);
-    }
+read-requires g c = have_parts _ 16 16 _ _ c.sixteenths.ensures (sym c.loop-k.invariant.size) c.requires.few (omega arith) (omega arith)

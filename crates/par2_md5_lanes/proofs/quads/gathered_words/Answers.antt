@@ -14,4 +14,4 @@ loop-k-preserved g c =
 pub word-requires : goal.word-requires
 word-requires g c =
     let low = c.loop-k-test.true in
-    omega (arith, ap length (bytes_here c.args.buffers.now c.loop-k.k (omega (arith, c.requires.enough, low))), c.requires.within c.loop-k.k low)
+    omega (arith, ap length (bytes_here c.args.buffers.now c.loop-k.k (omega (arith, c.requires.enough, low))), c.requires.each c.loop-k.k low)

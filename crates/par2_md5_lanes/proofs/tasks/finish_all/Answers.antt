@@ -11,7 +11,7 @@ loop-k-preserved g c =
     let tasks = c.go_on-state.new.tasks in
     let new = c.finish.new.self in
     let size = c.go_on-state.ensures.size in
-    let within : k < length tasks = omega (arith, size, c.loop-k-test.true, c.requires.lanes, c.requires.few) in
+    let within : k < length tasks = omega (arith, size, c.loop-k-test.true, c.requires.own, c.requires.few) in
     let its = works_at (set tasks k new) k new (omega (arith, length-set tasks k new, within)) ∙ ap work (get_or-set_same tasks k new new within) ∙ c.finish.ensures.done in
     record {
       tasks = length-set tasks k new ∙ size;

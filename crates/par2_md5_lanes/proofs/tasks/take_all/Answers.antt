@@ -20,11 +20,15 @@ loop-k-preserved c =
     record {
       tasks = length-set tasks k new ∙ held.tasks;
       buffers = length-set buffers k bytes ∙ held.buffers;
-      room = λ j h.
-          elim (cases_eq j k) [
+      room = record {
+        few = omega arith;
+        enough = omega (arith, length-set buffers k bytes, held.buffers);
+        room = held.room.room;
+        each = λ j h. elim (cases_eq j k) [
             | inl same ↦ rw same (omega (arith, ap length its, c.take.ensures.room))
-            | inr other ↦ omega (arith, ap length (bytes_set_other buffers k j bytes other (omega (arith, h, held.buffers))), held.room j h)
+            | inr other ↦ omega (arith, ap length (bytes_set_other buffers k j bytes other (omega (arith, h, held.buffers))), held.room.each j h)
           ];
+      };
       leads = λ j none hash last rest h leads.
           elim (cases_lt j k) [
             | inl below ↦

@@ -11,19 +11,19 @@ pub returns-then-is_intact_by : goal.returns-then-is_intact_by
 returns-then-is_intact_by c t h =
     let n : ℕ = c.loop-i.i-index in
     let i : ℕ = get_or c.args.free.now n 0 in
-    let within : i < length c.args.buffers.now = c.requires.free n 0 c.loop-i-test.true in
-    sym (first_here c.args.s (buffers_of c.args.buffers.now) t c.args.free.now n c.loop-i-test.true (at_number c.args.s c.args.buffers.now t i _ c.is_intact_by.result within (c.is_intact_by.ensures t h) ∙ c.if-is_intact_by.true))
+    let within : i < length c.args.files.buffers.now = c.requires.free n 0 c.loop-i-test.true in
+    sym (first_here c.args.files.s (buffers_of c.args.files.buffers.now) t c.args.free.now n c.loop-i-test.true (at_number c.args.files.s c.args.files.buffers.now t i _ c.is_intact_by.result within (c.is_intact_by.ensures t h) ∙ c.if-is_intact_by.true))
     ∙ c.loop-i.invariant t h
 
 pub loop-i-preserved : goal.loop-i-preserved
 loop-i-preserved c t h =
     let n : ℕ = c.loop-i.i-index in
     let i : ℕ = get_or c.args.free.now n 0 in
-    let within : i < length c.args.buffers.now = c.requires.free n 0 c.loop-i-test.true in
-    first_later c.args.s (buffers_of c.args.buffers.now) t c.args.free.now n c.loop-i-test.true (at_number c.args.s c.args.buffers.now t i _ c.is_intact_by.result within (c.is_intact_by.ensures t h) ∙ c.if-is_intact_by.false)
+    let within : i < length c.args.files.buffers.now = c.requires.free n 0 c.loop-i-test.true in
+    first_later c.args.files.s (buffers_of c.args.files.buffers.now) t c.args.free.now n c.loop-i-test.true (at_number c.args.files.s c.args.files.buffers.now t i _ c.is_intact_by.result within (c.is_intact_by.ensures t h) ∙ c.if-is_intact_by.false)
     ∙ c.loop-i.invariant t h
 
 pub returns : goal.returns
 returns c t h =
-    sym (at_drop_all (first_intact c.args.s (buffers_of c.args.buffers.now) t) c.args.free.now c.loop-i.i-index c.loop-i-test.false)
+    sym (at_drop_all (first_intact c.args.files.s (buffers_of c.args.files.buffers.now) t) c.args.free.now c.loop-i.i-index c.loop-i-test.false)
     ∙ c.loop-i.invariant t h

@@ -17,9 +17,9 @@ other_digest a b differ is other same = false≢true (sym (ap not ((bytes_eq-Dec
 
 pub returns-then-ne : goal.returns-then-ne
 returns-then-ne c =
-    let first : ℕ = c.args.first in
+    let first : ℕ = c.args.group.first in
     let lane : ℕ = c.loop-lane.lane in
-    let below : lane < c.args.count = c.loop-lane-test.true in
+    let below : lane < c.args.group.count = c.loop-lane-test.true in
     let its = c.slice_md5s-md5s.ensures lane below in (
       λ never. absurd (false≢true never),
       λ each. absurd (other_digest _ _ c.ne.result c.ne.ensures c.if-ne.true (its ∙ each (first + lane) (omega arith) (omega (arith, below)))),
@@ -27,8 +27,8 @@ returns-then-ne c =
 
 pub loop-lane-preserved : goal.loop-lane-preserved
 loop-lane-preserved c =
-    let first : ℕ = c.args.first in
+    let first : ℕ = c.args.group.first in
     let lane : ℕ = c.loop-lane.lane in
-    let below : lane < c.args.count = c.loop-lane-test.true in
+    let below : lane < c.args.group.count = c.loop-lane-test.true in
     let its = c.slice_md5s-md5s.ensures lane below in
-    one_more c.args.s first lane c.args.bytes.now c.args.pairs.now c.loop-lane.invariant (sym its ∙ same_digest _ _ c.ne.result c.ne.ensures c.if-ne.false)
+    one_more c.args.group.s first lane c.args.group.bytes.now c.args.pairs.now c.loop-lane.invariant (sym its ∙ same_digest _ _ c.ne.result c.ne.ensures c.if-ne.false)

@@ -1,6 +1,12 @@
-use Rattle.par2_slices.proofs.Common.{◌≡◌, length, arith}
+use Rattle.par2_slices.proofs.Common.{◌≡◌, ◌∙◌, length, length-take, ap, arith, slice_count}
 use Rattle.par2_slices.proofs.Comparisons.{compared_is, intact_by_md5s, not_intact_by_crcs}
 use Rattle.par2_slices.proofs.matching.is_intact.Goals as goal
+
+pub invariant_of-compared : goal.invariant_of-compared
+invariant_of-compared c =
+    let size : c.args.size ≡ length c.args.bytes.now = omega arith in
+    let count : c.slice_count.result ≡ slice_count c.args.s (length c.args.bytes.now) = c.slice_count.ensures ∙ ap (slice_count c.args.s) size in
+    record { some = c.requires; count = omega (arith, count, c.min-count.ensures, length-take c.min-count.result c.args.pairs.now) }
 
 pub returns-then-have_crc32s : goal.returns-then-have_crc32s
 returns-then-have_crc32s c t size pairs =

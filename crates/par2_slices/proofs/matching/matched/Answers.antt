@@ -1,5 +1,5 @@
 use Rattle.par2_slices.proofs.Common.{◌∙◌, ℕ, ◌+◌, ◌++◌, List, length, drop, sym, ap, subst, arith, Bor, range_with_len, append-nil, at_drop_all, length-map, matched_from, buffers_of}
-use Rattle.par2_slices.proofs.Matches.{AreBelow, below_length, described_all, match_pushed}
+use Rattle.par2_slices.proofs.Matches.{AreBelow, below_length, described_all, left_below, match_pushed}
 use Rattle.par2_slices.proofs.matching.matched.Goals as goal
 
 pub loop-target-init : goal.loop-target-init
@@ -16,7 +16,7 @@ loop-target-preserved c =
     let buffers : List (List ℕ) = buffers_of c.args.buffers.now in
     let n : ℕ = c.loop-target.target-index in
     record {
-      free = c.take_first.ensures.free;
+      free = subst (λ (free : List ℕ). AreBelow (length c.args.buffers.now) free) (sym c.take_first.ensures.left) (left_below _ _ c.take_first.result c.loop-target.invariant.free);
       numbers = λ ts h. ap (λ numbers. numbers ++ matched_from c.args.s buffers c.take_first.new.free.items (drop (n + 1) ts)) c.in_ok-push.ensures.items
           ∙ match_pushed c.args.s buffers c.args.targets.now ts n _ c.loop-target.numbers.items c.take_first.result c.loop-target.free.items c.take_first.new.free.items
           c.loop-target-test.true h c.take_first.ensures.first c.take_first.ensures.left (c.loop-target.invariant.numbers ts h);

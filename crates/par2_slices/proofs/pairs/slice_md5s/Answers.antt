@@ -4,9 +4,9 @@ use Rattle.par2_slices.proofs.pairs.slice_md5s.Goals as goal
 
 pub whole_md5s-md5s-requires-clause-whole : goal.whole_md5s-md5s-requires-clause-whole
 whole_md5s-md5s-requires-clause-whole c some =
-    let s = c.args.s in
-    let len = length c.args.bytes.now in
-    let within : (c.args.first + c.min-together.result) * s ≤ len / s * s = mul-le-mul_right s (omega (arith, some, c.min-together.ensures, c.saturating_sub.ensures)) in
+    let s = c.args.group.s in
+    let len = length c.args.group.bytes.now in
+    let within : (c.args.group.first + c.min-together.result) * s ≤ len / s * s = mul-le-mul_right s (omega (arith, some, c.min-together.ensures, c.saturating_sub.ensures)) in
     omega (arith, within, div-mul-le_self len s)
 
 pub loop-k-preserved : goal.loop-k-preserved
@@ -20,7 +20,7 @@ loop-k-preserved c =
       done =
           below_more _ _
           (λ j h. let other : j ≢ k = omega arith in rw get_or-set_other (held.done j h))
-          (get_or-set_same md5s k digest [] (omega (arith, held.len, c.loop-k-test.true, c.requires.few))
+          (get_or-set_same md5s k digest [] (omega (arith, held.len, c.loop-k-test.true, c.args.group.few))
           ∙ c.padded_md5.ensures
-          ∙ ap (λ b. md5 (padded c.args.s b)) c.slice_bytes.ensures.value);
+          ∙ ap (λ b. md5 (padded c.args.group.s b)) c.slice_bytes.ensures.value);
     }

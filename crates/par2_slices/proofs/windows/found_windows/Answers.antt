@@ -1,4 +1,4 @@
-use Rattle.par2_slices.proofs.Common.{◌≡◌, ◌∙◌, ◌≤◌, ◌++◌, ◌∷◌, [], ℕ, List, length, map, sym, ap, ap₂, subst, arith, Option, IfSome, option_map, length-map, map-append, map_more, take_all, All-push, Pair, found, no_pair, pair_at, AreShort, IsWithin, Window, padded_window, padded_windows, buffers_of, window_in}
+use Rattle.par2_slices.proofs.Common.{◌≡◌, ◌∙◌, ◌≤◌, ◌++◌, ◌∷◌, [], ℕ, List, length, map, sym, ap, ap₂, subst, arith, Option, IfSome, option_map, length-map, map-append, map_more, take_all, All-push, Pair, first_position, found, no_pair, pair_at, AreShort, IsWithin, Window, padded_window, padded_windows, buffers_of, window_in}
 use Rattle.par2_slices.proofs.FoundWindows.{position_of_pair, position_found, position_within}
 use Rattle.par2_slices.proofs.windows.found_windows.Goals as goal
 
@@ -7,7 +7,7 @@ window_at-requires c =
     let s : ℕ = c.args.s in
     let buffers : List (List ℕ) = buffers_of c.args.buffers.now in
     let i : ℕ = c.loop-position.position-index in
-    let its = position_of_pair s buffers c.args.pairs.now c.in_ok-positions.positions.items c.deref-position-items.result.now i c.in_ok-positions.ensures c.deref-position-items.ensures.value c.loop-position-test.true in
+    let its = position_of_pair s buffers c.args.pairs.now c.in_ok-positions.positions.items c.deref-position-items.result.now i (c.in_ok-positions.ensures ∙ ap (map (first_position s buffers)) c.in_ok-wanted.ensures) c.deref-position-items.ensures.value c.loop-position-test.true in
     subst (λ position. IfSome position (IsWithin buffers)) (sym its.1) (position_within s buffers (pair_at c.args.pairs.now i))
 
 pub loop-position-preserved : goal.loop-position-preserved
@@ -16,7 +16,7 @@ loop-position-preserved c =
     let buffers : List (List ℕ) = buffers_of c.args.buffers.now in
     let pairs : List Pair = c.args.pairs.now in
     let i : ℕ = c.loop-position.position-index in
-    let its = position_of_pair s buffers pairs c.in_ok-positions.positions.items c.deref-position-items.result.now i c.in_ok-positions.ensures c.deref-position-items.ensures.value c.loop-position-test.true in
+    let its = position_of_pair s buffers pairs c.in_ok-positions.positions.items c.deref-position-items.result.now i (c.in_ok-positions.ensures ∙ ap (map (first_position s buffers)) c.in_ok-wanted.ensures) c.deref-position-items.ensures.value c.loop-position-test.true in
     let window : padded_window s c.window_at.result ≡ found s buffers (pair_at pairs i) = c.window_at.ensures.value ∙ ap (option_map (window_in s buffers)) its.1 ∙ position_found s buffers (pair_at pairs i) in
     record {
       first =
@@ -34,6 +34,6 @@ returns-clause-first c =
     let s : ℕ = c.args.s in
     let buffers : List (List ℕ) = buffers_of c.args.buffers.now in
     let pairs : List Pair = c.args.pairs.now in
-    let count : length c.in_ok-positions.positions.items ≡ length pairs = ap length c.in_ok-positions.ensures ∙ length-map _ _ in
+    let count : length c.in_ok-positions.positions.items ≡ length pairs = ap length (c.in_ok-positions.ensures ∙ ap (map (first_position s buffers)) c.in_ok-wanted.ensures) ∙ length-map _ _ in
     let items : length c.deref-position-items.result.now ≡ length c.in_ok-positions.positions.items = ap length c.deref-position-items.ensures.value in
     c.loop-position.invariant.first ∙ ap (map (found s buffers)) (take_all c.loop-position.position-index pairs (omega (arith, count, items, c.loop-position-test.false)))

@@ -1,16 +1,11 @@
 use Rattle.par2_md5_lanes.proofs.Common.{◌*◌, arith, drop, take, rules, lane, slice_index, hash_behind, buffer_at}
 use Rattle.par2_md5_lanes.proofs.BlockLaws.{after_words}
 use Rattle.par2_md5_lanes.proofs.FeedLaws.{hash_one_more}
+use Rattle.par2_md5_lanes.proofs.SixteenLaws.{have_fewer}
 use Rattle.par2_md5_lanes.proofs.blocks.HashStateSimdU32Hashes.absorbed.Goals as goal
 
 pub read_words-requires : goal.read_words-requires
-read_words-requires g c = (
-  omega (arith, c.requires.few),
-  (
-    c.requires.enough,
-    (omega (arith, c.requires.room, c.loop-block-test.true), λ k low. omega (arith, c.requires.within k low, c.loop-block-test.true)),
-  ),
-)
+read_words-requires g c = (omega (arith, c.requires.few), have_fewer _ _ _ c.args.buffers.now c.requires (omega (arith, c.loop-block-test.true)))
 
 pub compressed-after-requires : goal.compressed-after-requires
 compressed-after-requires g c = omega (arith, c.requires.few)

@@ -1,37 +1,19 @@
-use Rattle.par2_md5_lanes.proofs.Common.{◌*◌, ◌+◌, ◌-◌, ◌≡◌, ◌∙◌, ℕ, List, ap, sym, arith, refl, drop, length, length-drop, length-take-le, take, block_words, slice_index, lane, hash_behind, buffer_at}
+use Rattle.par2_md5_lanes.proofs.Common.{◌*◌, ◌+◌, ◌-◌, ◌≡◌, ◌∙◌, ℕ, List, ap, sym, arith, refl, drop, length, take, block_words, slice_index, lane, hash_behind, buffer_at}
 use Rattle.par2_md5_lanes.proofs.BlockLaws.{after_words}
 use Rattle.par2_md5_lanes.proofs.FeedLaws.{hash_one_more}
 use Rattle.par2_md5_lanes.specs.Lanes.{hash_of_sixteen}
-use Rattle.par2_md5_lanes.proofs.SixteenLaws.{each_of_sixteen, hash_of_high, hash_of_low, bytes_of_high, bytes_of_low}
+use Rattle.par2_md5_lanes.proofs.SixteenLaws.{each_of_sixteen, hash_of_high, hash_of_low, bytes_of_high, bytes_of_low, have_fewer, have_high, have_low}
 use Rattle.par2_md5_lanes.proofs.blocks.SixteenHashes.absorbed.Goals as goal
 
 pub read_words-low-requires : goal.read_words-low-requires
 read_words-low-requires c =
-    let buffers = c.args.buffers.now in (
-      omega arith,
-      (
-        omega (arith, length-take-le 8 buffers (omega (arith, c.requires.enough))),
-        (
-          omega (arith, c.requires.room, c.loop-block-test.true),
-          λ k low. omega (arith, c.requires.within k (omega (arith, low)), c.loop-block-test.true, ap length (bytes_of_low buffers k low)),
-        ),
-      ),
-    )
+    let buffers = c.args.buffers.now in
+    (omega arith, have_low _ buffers (have_fewer 16 _ _ buffers c.requires (omega (arith, c.loop-block-test.true))))
 
 pub read_words-high-requires : goal.read_words-high-requires
 read_words-high-requires c =
     let buffers = c.args.buffers.now in
-    let n : ℕ = length buffers - 8 in
-    let rest = length-take-le n (drop 8 buffers) (omega (arith, length-drop 8 buffers)) in (
-      omega arith,
-      (
-        omega (arith, rest),
-        (
-          omega (arith, c.requires.room, c.loop-block-test.true),
-          λ k low. omega (arith, c.requires.within (8 + k) (omega (arith, low)), c.loop-block-test.true, ap length (bytes_of_high buffers n k (omega (arith, low, c.requires.enough)))),
-        ),
-      ),
-    )
+    (omega arith, have_high _ buffers (have_fewer 16 _ _ buffers c.requires (omega (arith, c.loop-block-test.true))))
 
 pub loop-block-init : goal.loop-block-init
 unfolding hash_behind

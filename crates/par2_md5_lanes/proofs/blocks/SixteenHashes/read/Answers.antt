@@ -1,26 +1,12 @@
-use Rattle.par2_md5_lanes.proofs.Common.{ap, ◌+◌, ◌-◌, ◌≡◌, ◌∙◌, ℕ, List, arith, drop, length, length-drop, length-take-le, four_words_at, buffer_at}
-use Rattle.par2_md5_lanes.proofs.SixteenLaws.{each_of_sixteen, bytes_of_low, bytes_of_high}
+use Rattle.par2_md5_lanes.proofs.Common.{ap, ◌+◌, ◌-◌, ◌≡◌, ◌∙◌, ℕ, List, arith, length, four_words_at, buffer_at}
+use Rattle.par2_md5_lanes.proofs.SixteenLaws.{each_of_sixteen, bytes_of_low, bytes_of_high, have_high, have_low}
 use Rattle.par2_md5_lanes.proofs.blocks.SixteenHashes.read.Goals as goal
 
 pub read-requires : goal.read-requires
-read-requires c = (
-  omega arith,
-  (
-    omega (arith, length-take-le 8 c.args.buffers.now (omega (arith, c.requires.enough))),
-    λ k low. omega (arith, c.requires.within k (omega (arith, low)), ap length (bytes_of_low c.args.buffers.now k low)),
-  ),
-)
+read-requires c = (omega arith, have_low 16 c.args.buffers.now c.requires)
 
 pub read-requires-2 : goal.read-requires-2
-read-requires-2 c =
-    let buffers = c.args.buffers.now in
-    let rest : ℕ = length buffers - 8 in (
-      omega arith,
-      (
-        omega (arith, c.requires.enough, length-take-le rest (drop 8 buffers) (omega (arith, length-drop 8 buffers))),
-        λ k low. omega (arith, c.requires.within (8 + k) (omega (arith, low)), ap length (bytes_of_high buffers rest k (omega (arith, low, c.requires.enough)))),
-      ),
-    )
+read-requires-2 c = (omega arith, have_high 16 c.args.buffers.now c.requires)
 
 pub returns : goal.returns
 returns c =
