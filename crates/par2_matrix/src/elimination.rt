@@ -55,10 +55,8 @@ fn reduce(gf: &Gf, rows: &[Vec<u8>], right_sides: &[Vec<u8>], row: &mut [u8], ri
     ghost rank: { ℕ }
     requires reduced { IsReduced (echelon_of (length right.old) rank rows.now right_sides.now) }
     requires size { length row.old ≡ 2 * length rows.now }
-    ensures taken { ReducedBelow (echelon_of (length right.old) 0 rows.now right_sides.now)
+    ensures { ReducedBelow (echelon_of (length right.old) 0 rows.now right_sides.now)
         row.old right.old row.new right.new (length rows.now) }
-    ensures row_bytes { (k : ℕ) → slice_index row.new k < 2 ^ 8 }
-    ensures right_bytes { (k : ℕ) → slice_index right.new k < 2 ^ 8 }
 {
     for p in 0..rows.len() {
         let factor = element(row, p);
@@ -68,8 +66,6 @@ fn reduce(gf: &Gf, rows: &[Vec<u8>], right_sides: &[Vec<u8>], row: &mut [u8], ri
             add_multiple(gf, factor, list_at(right_sides, p), right);
         }
     }
-    fit_bytes(row);
-    fit_bytes(right);
 }
 
 // The number of the first element that isn't 0, which becomes the pivot; None if all are 0.
@@ -87,11 +83,9 @@ fn first_nonzero(row: &[u8]) -> Option<usize>
 
 // Scales the equation so that its element at q is 1, as that of a pivot must be.
 fn normalize(gf: &Gf, row: &mut [u8], right: &mut [u8], q: usize)
-    // The element at q is not 0. Row and right-hand side are bytes.
+    // The element at q is not 0.
     requires place { 2 * q + 1 < length row.old }
     requires nonzero { word q row.old ≢ 0 }
-    requires row_bytes { (k : ℕ) → slice_index row.old k < 2 ^ 8 }
-    requires right_bytes { (k : ℕ) → slice_index right.old k < 2 ^ 8 }
     // The equation is multiplied by the inverse of this element, so that the new one is 1.
     ensures multiple { (n : ℕ) → length row.old ≡ 2 * n
         → IsMultiple n (length right.old) row.old right.old row.new right.new }
@@ -127,6 +121,8 @@ pub(crate) fn prepare(
     fit_bytes(row);
     fit_bytes(right);
     reduce(gf, rows, right_sides, row, right);
+    fit_bytes(row);
+    fit_bytes(right);
     let q = first_nonzero(row)?;
     normalize(gf, row, right, q);
     Some(q)

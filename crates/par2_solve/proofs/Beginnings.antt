@@ -1,5 +1,6 @@
 -- If the first exponents, as many as slices are lost, determine the lost slices, they are the kept ones.
 use Rattle.par2_solve.proofs.Common.{ℕ, zero, suc, ◌+◌, ◌-◌, ◌<◌, ◌≤◌, ◌≡◌, refl, sym, ap, ◌∙◌, subst, arith, Bool, true, false, cond, List, [], ◌∷◌, length, get_or, map, take, filter, Option, Some, None, AllByRecursion, Contains, range_with_len, IsStrictlyIncreasing, length-map, length-take, ext_get_or, get_or-take, length-take-le, take-map, Contains-get_or, length-range_with_len, get_or-range_with_len, kept, kept_slices, AreClose, HasRun, IsRepairable, is_independent, coefficients, all_from, all_get, all_unmap, filter-map, BeginsWithRun, lost_from, recovered_of, exponents_of, Bor}
+use Rattle.std.proofs.lemmas.List.{take-take}
 use Rattle.std.proofs.lemmas.List.Sums.{count_by-le-length, length-filter}
 use Rattle.par2_spec.proofs.FullRank.{full-iff}
 use Rattle.par2_solve.proofs.Ranks.{is_kept, is_kept_at}
@@ -9,10 +10,11 @@ use Rattle.par2_solve.proofs.Standing.{kept_slices_are}
 
 -- ---- the first exponents
 
-pub begins : (xs : List ℕ) (n : ℕ) → IsStrictlyIncreasing xs → n ≤ length xs → AreClose n (take n xs) → BeginsWithRun (get_or xs 0 0) n xs
-begins xs n rise within close =
+pub begins : (xs : List ℕ) (n : ℕ) → IsStrictlyIncreasing xs → length (take n xs) ≡ n → AreClose n (take n xs) → BeginsWithRun (get_or xs 0 0) n xs
+begins xs n rise long close =
     ext_get_or 0 (take n xs) (range_with_len f n) (long ∙ sym (length-range_with_len f n)) (λ k h.
     let low : k < n = omega (arith, h, long) in
+    let within : n ≤ length xs = omega (arith, long, length-take n xs) in
     let ends = close_ends (take n xs) n (omega (arith, h)) close in
     let first = get_or-take n xs 0 0 (omega (arith, low)) in
     let last : get_or (take n xs) (length (take n xs) - 1) 0 ≡ get_or xs (n - 1) 0 = ap (λ m. get_or (take n xs) (m - 1) 0) long ∙ get_or-take n xs (n - 1) 0 (omega (arith, low)) in
@@ -24,9 +26,6 @@ begins xs n rise within close =
     f : ℕ
     f = get_or xs 0 0
 
-    long : length (take n xs) ≡ n
-    long = length-take-le n xs within
-
 pub close_front : (xs : List ℕ) (f n : ℕ) → BeginsWithRun f n xs → AreClose n (take n xs)
 close_front xs f n front = subst (AreClose n) (sym front) (close_range f n)
 
@@ -35,12 +34,6 @@ front_within xs f n front =
     let long : length (take n xs) ≡ n = ap length front ∙ length-range_with_len f n in
     let least = length-take n xs in
     omega (arith, long, least)
-
-pub has_run_front : (xs : List ℕ) (f n : ℕ) → BeginsWithRun f n xs → HasRun f n xs
-has_run_front xs f n front i low =
-    let within : i < length xs = (let most = front_within xs f n front in omega (arith, most, low)) in
-    let at : get_or xs i 0 ≡ f + i = sym (get_or-take n xs i 0 low) ∙ ap (λ ys. get_or ys i 0) front ∙ get_or-range_with_len f n i 0 low in
-    subst (Contains xs) at (Contains-get_or xs i 0 within)
 
 -- ---- the kept exponents
 
@@ -67,25 +60,13 @@ all_pass p (x ∷ xs) e = step (p x) refl e (all_pass p xs)
     step true here all rest = (here, rest (omega (arith, all)))
     step false here all rest = absurd (let count = count_by-le-length p xs in let same = length-filter p xs in omega (arith, count, same, all))
 
-take_sooner : {A : Type 0} (i n : ℕ) (xs : List A) → i ≤ n → take i (take n xs) ≡ take i xs
-take_sooner zero n xs h = none (take n xs) xs
-  where
-    none : {A : Type 0} (xs ys : List A) → take 0 xs ≡ take 0 ys
-    none [] [] = refl
-    none [] (y ∷ ys) = refl
-    none (x ∷ xs) [] = refl
-    none (x ∷ xs) (y ∷ ys) = refl
-take_sooner (suc i) zero xs h = absurd (omega (arith, h))
-take_sooner (suc i) (suc n) [] h = refl
-take_sooner (suc i) (suc n) (x ∷ xs) h = ap (λ ys. x ∷ ys) (take_sooner i n xs (omega (arith, h)))
-
 -- whether an exponent is kept depends only on those before it
 kept_alone : (ks es : List ℕ) (n i : ℕ) → IsStrictlyIncreasing es → n ≤ length es → i < n → is_kept ks es (get_or es i 0) ≡ is_kept ks (take n es) (get_or es i 0)
 kept_alone ks es n i rise within low =
     let long = length-take-le n es within in
     let at : get_or (take n es) i 0 ≡ get_or es i 0 = get_or-take n es i 0 low in
     is_kept_at ks es i rise (omega (arith, low, within))
-    ∙ ap (λ before. is_independent (length ks) (map (coefficients ks) before) (coefficients ks (get_or es i 0))) (sym (take_sooner i n es (omega (arith, low))))
+    ∙ ap (λ before. is_independent (length ks) (map (coefficients ks) before) (coefficients ks (get_or es i 0))) (sym (take-take i n es (omega (arith, low))))
     ∙ subst (λ e. is_independent (length ks) (map (coefficients ks) (take i (take n es))) (coefficients ks e) ≡ is_kept ks (take n es) e) at (sym (is_kept_at ks (take n es) i (take_rises es n rise within) (omega (arith, low, long))))
 
 -- the first exponents, as many as slices are lost, are kept if they determine the lost slices

@@ -1,5 +1,5 @@
 -- From added products to recovery slices.
-use Rattle.par2_solve.proofs.Common.{cases_lt, inl, inr, ℕ, zero, suc, ◌+◌, ◌-◌, ◌*◌, ◌%◌, ◌<◌, ◌≤◌, ◌≡◌, refl, sym, ap, ap₂, ◌∙◌, subst, arith, List, [], ◌∷◌, ◌++◌, length, get_or, map, replicate, Vec, Global, zero-add, Bor, range_with_len, get_or-map, length-map, length_push, map_push, get_or_append_left, get_or_push, get_or_past, get_or-map-range_with_len, length-map-range_with_len, length-range_with_len, get_or-range_with_len, mul, coefficient, padded, word, dot, coefficients, combination, recovery, all_at, product-lt, field_sum, list_at, lists_of, field_sum_same, field_sum-lt, dot_sum, product_at, coefficients_are, combination_words, word-lt, AreByteLists, recovered, zeros_read, all_coefficients, buffers_of, AreBlank}
+use Rattle.par2_solve.proofs.Common.{constant, pow, length-constant_powers, constant_powers, cases_lt, inl, inr, ℕ, zero, suc, ◌+◌, ◌-◌, ◌*◌, ◌%◌, ◌<◌, ◌≤◌, ◌≡◌, refl, sym, ap, ap₂, ◌∙◌, subst, arith, List, [], ◌∷◌, ◌++◌, length, get_or, map, replicate, Vec, Global, zero-add, Bor, range_with_len, get_or-map, length-map, length_push, map_push, get_or_append_left, get_or_push, get_or_past, get_or-map-range_with_len, length-map-range_with_len, length-range_with_len, get_or-range_with_len, mul, coefficient, padded, word, dot, coefficients, combination, recovery, all_at, product-lt, field_sum, list_at, lists_of, field_sum_same, field_sum-lt, dot_sum, product_at, coefficients_are, combination_words, word-lt, AreByteLists, recovered, zeros_read, all_coefficients, buffers_of, AreBlank}
 
 -- ---- padding
 
@@ -18,6 +18,11 @@ words_padded s w [] = refl
 words_padded s w (t ∷ lists) = ap₂ (λ x xs. x ∷ xs) (word-padded s t w) (words_padded s w lists)
 
 -- ---- coefficients
+
+-- past the last slice, the constant is 1
+pub constant_past : (k : ℕ) → 32768 ≤ k → constant k ≡ 1
+unfolding constant pow
+constant_past k past = ap (pow 2) (get_or_past constant_powers k 0 (omega (arith, past, length-constant_powers)))
 
 pub coefficients-lt : (numbers : List ℕ) (e k : ℕ) → get_or (coefficients numbers e) k 0 < 65536
 coefficients-lt numbers e k = all_at (λ x. x < 65536) 0 (omega arith) (coefficients numbers e) (coefficients_are e numbers) k

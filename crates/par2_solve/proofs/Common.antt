@@ -6,7 +6,7 @@ pub use Rattle.std.proofs.lemmas.Bool.{cases_eq, cases_lt, eq-eqb, eqb-false, eq
 pub use Rattle.std.proofs.lemmas.Iterator.{YieldsList-from_map, YieldsList-from_map_by, YieldsList-from_range, YieldsList-from_slice, items_from_collect}
 pub use Rattle.std.proofs.lemmas.Iterator.Consumers.{map_from_collect}
 pub use Rattle.std.proofs.lemmas.List.{drop_all, drop_more, ext_get_or, get_or-append_right, get_or-drop, get_or-map, get_or-reverse, get_or-set_other, get_or-set_same, get_or-take, get_or_append_left, get_or_at, get_or_default, get_or_past, get_or_push, length-drop, length-map, length-replicate, length-reverse, length-set, length-take, length-take-le, length_push, map-append, map_more, map_push, take-map, take_all, take_more, with_items_is}
-pub use Rattle.std.proofs.lemmas.List.Elements.{Contains-get_or, filter_more}
+pub use Rattle.std.proofs.lemmas.List.Elements.{Contains-get_or, filter_more, recursion_from_All}
 pub use Rattle.std.proofs.lemmas.List.FromFn.{get_or-map-range_with_len, get_or-range_with_len, length-map-range_with_len, length-range_with_len, map-range_with_len_more}
 pub use Rattle.std.proofs.lemmas.List.Kept.{AllPairs-from_increasing}
 pub use Rattle.std.proofs.lemmas.Nat.{xor_comm, xor_lt}
@@ -14,21 +14,21 @@ pub use Rattle.std.proofs.lemmas.Result.{IfOk-weaker}
 pub use Rattle.std.proofs.lemmas.Simd.{map-map}
 pub use Rattle.std.specs.Borrow.{Bor}
 pub use Rattle.std.specs.Int.Bits.{xor_assoc, xor_zero_l, xor_zero_r}
-pub use Rattle.std.specs.List.{AllByRecursion, AllZip, Contains, enumerate_from, list_all, list_any, range_with_len, slice_get}
+pub use Rattle.std.specs.List.{All, AllByRecursion, AllZip, Contains, enumerate_from, list_all, list_any, range_with_len, slice_get}
 pub use Rattle.std.specs.List.Sorted.{IsStrictlyIncreasing}
-pub use Rattle.std.specs.Prelude.{IfErr, IfSome, IsPermutation, None, Ok, Option, Result, Some, filter, is_none, slice_index, unwrap_or}
+pub use Rattle.std.specs.Prelude.{IfErr, IfSome, IsNone, IsPermutation, None, Ok, Option, Result, Some, filter, is_none, slice_index, unwrap_or}
 pub use Rattle.std.specs.Vec.{with_items}
 pub use Rattle.par2_matrix.specs.Systems.{AreSolutionBuffers, CutDown, Equations, IsDependent, IsIndependent, IsTheSolution, OnlyZeroIsKilled, Solves}
 pub use Rattle.par2_matrix.specs.declared.system.Offer.TheVariants.{Dependent, Kept}
 pub use Rattle.par2_solve.specs.Elements.{AreByteRows, IsUnit}
-pub use Rattle.par2_solve.specs.Inverses.{CutByUnit, GivesUnit, IsEliminated, IsInverseMatrix, identity, recovery_at}
+pub use Rattle.par2_solve.specs.Inverses.{CutByUnit, IsEliminated, IsInverseMatrix, identity, recovery_at}
 pub use Rattle.par2_solve.specs.Products.{Adds, AddsSource, AreByteLists, products}
 pub use Rattle.par2_solve.specs.Rebuilding.{AreRebuilt, CanRebuild, known_among}
 pub use Rattle.par2_solve.specs.RunInverses.{AreScaledQuotients, BeginsWithRun, IsScaledQuotient}
 pub use Rattle.par2_solve.specs.Survivors.{IsTrueFault, bytes_or_none, exponents_of, known_alone, known_of, lost_from, recovered_of, with_lost_slices}
 pub use Rattle.par2_solve.specs.Syndromes.{AreExtended, AreProducts, AreRun, AreSolved, all_coefficients, syndrome, chunk}
 pub use Rattle.par2_solve.specs.BufferContents.{AreBlank, buffers_of}
-pub use Rattle.par2_spec.proofs.FieldConstants.{constant-injective, constant-lt, constant-nonzero}
+pub use Rattle.par2_spec.proofs.FieldConstants.{constant-injective, constant-lt, constant-nonzero, length-constant_powers}
 pub use Rattle.par2_spec.proofs.FieldOrder.{no_zero_divisor, power-lt, product-zero, zero-product}
 pub use Rattle.par2_spec.proofs.FieldProducts.{product-lt, product-one, product_assoc, product_comm, product_linear_left, product_linear_right}
 pub use Rattle.par2_spec.proofs.FoundLaws.{all-filter}
@@ -38,8 +38,8 @@ pub use Rattle.par2_spec.proofs.RunLaws.{close_kept, run_determines, run_rank}
 pub use Rattle.par2_spec.proofs.SumLaws.{dot_sum, field_sum-lt, field_sum_head, field_sum_none, field_sum_one, field_sum_same, field_sum_scaled, field_sum_xor, product_at, xor_off}
 pub use Rattle.par2_spec.proofs.UniqueLaws.{agreeing_are_one, coefficients_are, dot-lt, words_are}
 pub use Rattle.par2_spec.proofs.WordLaws.{bytes_at, combination_words, length-lists_of, read_at, word-lt, written_changed, written_here}
-pub use Rattle.par2_spec.specs.Field.{constant, mul}
-unfoldable pub use Rattle.par2_spec.specs.Field.{coefficient, pow}
+pub use Rattle.par2_spec.specs.Field.{constant_powers, mul}
+unfoldable pub use Rattle.par2_spec.specs.Field.{coefficient, constant, pow}
 pub use Rattle.par2_spec.specs.Polynomials.{ArePoints, times, times_root}
 unfoldable pub use Rattle.par2_spec.specs.Polynomials.{plus, quotient, value, with_roots}
 pub use Rattle.par2_spec.specs.Rank.{Agrees, IsRepairable, IsVector, Kills, kept, kept_slices, kills, rank, smaller}

@@ -122,7 +122,7 @@ run_made filling n size buffers filled run sums is count bytes first run_is seco
 pub inverts_over_holes : (ks es : List ℕ) (n : ℕ) (filling : Filling) → AreSlices ks → IsStrictlyIncreasing es → 0 < length es → length es ≡ length ks → n + length es ≡ span es + 1
     → filling.equations.count ≡ n → filling.equations.sequence.items ≡ falling (locator ks) (span es + 1) → AreHoleInverse (locator ks) (holes es) n (lists_of filling.holes.items) → AreOrigins es (span es + 1) filling.origins.items
     → Inverts ks (range_with_len (get_or es 0 0) (length ks)) (Located filling.locator) → Inverts ks es (Filled filling) × IsRepairable ks es
-inverts_over_holes ks es n filling are rise some square fit equations_are sequence_is inverse origins run = (record { is_inverse = is_inverse; wide = is_filled }, holes_determine ks es n are rise some (omega (arith, fit, square)) inverse.only)
+inverts_over_holes ks es n filling are rise some square fit equations_are sequence_is inverse origins run = (record { is_inverse = is_inverse; takes = is_filled }, holes_determine ks es n are rise some (omega (arith, fit, square)) inverse.only)
   where
     l : ℕ
     l = length ks
@@ -149,7 +149,7 @@ inverts_over_holes ks es n filling are rise some square fit equations_are sequen
 
     is_inverse : IsInverseMatrix ks es (filled_rows filling)
     is_inverse =
-        subst (λ b. IsInverseMatrix ks es (filled_by b)) (sym run.wide)
+        subst (λ b. IsInverseMatrix ks es (filled_by b)) (sym run.takes)
         (subst (λ a. IsInverseMatrix ks es (inverse_by a (known_by a filling.equations.sequence.items))) (sym equations_are)
         (subst (λ sequence. IsInverseMatrix ks es (inverse_by n (known_by n sequence))) (sym sequence_is)
         (subst (λ known. IsInverseMatrix ks es (inverse_by n known)) (sym (known_is ks es n l filling.origins.items rise some square origins))
@@ -164,7 +164,7 @@ inverts_over_holes ks es n filling are rise some square fit equations_are sequen
 
     is_filled : IsFilled (length ks) filling
     is_filled = record {
-      count = run.wide;
+      count = run.takes;
       window = (let many = origins.count in omega (arith, many, fit, square));
       origins = λ x low. within x (origin_at filling.origins.items x) (origins.each x (let many = origins.count in omega (arith, low, many)));
       equations = ap (λ (xs : List ℕ). length xs) sequence_is ∙ falling_long p (span es + 1) ∙ sym origins.count;

@@ -58,22 +58,6 @@ known_vector p places n u are low =
 pub known_elements : (p places : List ℕ) (n : ℕ) → AllByRecursion (λ c. c < 2 ^ 16) p → HasElements (shifted_rows p places n)
 known_elements p places n are = rows_elements (shifted_rows p places n) (length places) (λ u low. known_vector p places n u are low)
 
--- ---- the syndromes of the run
-
-pub no_origin : (es : List ℕ) → AreOrigins es 0 []
-no_origin es = record { count = refl; each = λ x low. absurd (omega (arith, low)) }
-
-pub one_origin_more : (es : List ℕ) (origins : List Origin) (origin : Origin) (n : ℕ) → AreOrigins es n origins → IsOriginAt es n origin → AreOrigins es (n + 1) (origins ++ origin ∷ [])
-one_origin_more es origins origin n are here = record {
-  count = length-append origins (origin ∷ []) ∙ ap (λ k. k + 1) are.count;
-  each = λ x low. elim (cases_lt x n) [
-    | inl before ↦ subst (IsOriginAt es x) (sym (get_or_append_left origins (origin ∷ []) (Exponent 0) x (let e = are.count in omega (arith, e, before)))) (are.each x before)
-    | inr high ↦
-        (let last : n ≡ x = omega (arith, high, low) in
-        subst (λ y. IsOriginAt es y (origin_at (origins ++ origin ∷ []) y)) last (subst (IsOriginAt es n) (sym (get_or_at origins origin [] (Exponent 0) n are.count)) here))
-  ];
-}
-
 -- ---- sums over a window
 
 -- what holds of each number that passes a test holds of all that a filter leaves

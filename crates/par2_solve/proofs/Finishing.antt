@@ -1,30 +1,22 @@
 -- The result once the kept exponents are known.
 use Rattle.par2_solve.proofs.Common.{ℕ, ◌+◌, ◌*◌, ◌<◌, ◌≤◌, ◌≡◌, sym, ap, ◌∙◌, subst, arith, List, [], Vec, Global, length, get_or, map, bit_xor, Bor, Option, AllByRecursion, get_or-map, length-map, xor_lt, word, Agrees, IsRepairable, kept_slices, lost, lists_of, list_at, field_sum, length-lists_of, word-lt, mul, all_from, all_get, all-filter, agreeing_are_one, recovery_at, IsInverseMatrix, AreByteLists, CanRebuild, AreRebuilt, known_among, with_lost_slices, lost_from, recovered_of, exponents_of, bytes_or_none, recovered, syndrome, AreSolved, coefficients, recovery, dot}
-use Rattle.par2_solve.specs.Filling.{IsFilled}
 use Rattle.par2_solve.specs.Solvers.{Inverts, TakesSources}
 use Rattle.par2_solve.specs.declared.rebuild_slices.Survivors as code
 use Rattle.par2_solve.specs.declared.solver.Inverse.{Inverse}
-use Rattle.par2_solve.specs.declared.solver.Inverse.TheVariants.{Rows, Located, Filled}
 use Rattle.par2_solve.proofs.Combinations.{recovered-lt}
 use Rattle.par2_solve.proofs.Inverting.{gives_back, length-recovered_of, length-slices}
 use Rattle.par2_solve.proofs.Rebuilding.{AreSized, lost_are, sized_filled, filled_known, equation}
 
--- a row of the inverse has an element for each kept exponent
-pub inverse_long : (missing : List ℕ) (found : List (ℕ × Bor (List ℕ))) (inverse : List (Vec ℕ Global)) → IsInverseMatrix missing (exponents_of found) (lists_of inverse)
-    → (r : ℕ) → r < length inverse → length found ≤ length (list_at (lists_of inverse) r)
-inverse_long missing found inverse is r h =
-    let many = length-lists_of inverse in
-    let long = (is.vectors r (let n = is.count in omega (arith, h, many, n))).0 in
-    let square = sym (length-map (recovered_of found) (λ (e : ℕ × List ℕ). e.0) ∙ length-recovered_of found) ∙ is.square in
-    omega (arith, long, square)
+-- a row of the inverse has an element for each lost slice
+pub rows_take : (missing es : List ℕ) (rows : List (Vec ℕ Global)) → IsInverseMatrix missing es (lists_of rows) → (r : ℕ) → r < length rows → length missing ≤ length (list_at (lists_of rows) r)
+rows_take missing es rows is r h =
+    let long = (is.vectors r (let n = is.count in omega (arith, h, length-lists_of rows, n))).0 in
+    omega (arith, long)
 
 -- an inverse is applied to as many sources as exponents are kept
 pub takes_sources : (missing : List ℕ) (found : List (ℕ × Bor (List ℕ))) (inverse : Inverse) → Inverts missing (exponents_of found) inverse → TakesSources (length found) inverse
-takes_sources missing found (Rows rows) inverts = inverse_long missing found rows.items inverts.is_inverse
-takes_sources missing found (Located locator) inverts =
-    inverts.wide ∙ sym inverts.is_inverse.square ∙ length-map (recovered_of found) (λ (e : ℕ × List ℕ). e.0) ∙ length-recovered_of found
-takes_sources missing found (Filled filling) inverts =
-    subst (λ n. IsFilled n filling) (sym inverts.is_inverse.square ∙ length-map (recovered_of found) (λ (e : ℕ × List ℕ). e.0) ∙ length-recovered_of found) inverts.wide
+takes_sources missing found inverse inverts =
+    subst (λ n. TakesSources n inverse) (sym inverts.is_inverse.square ∙ length-map (recovered_of found) (λ (e : ℕ × List ℕ). e.0) ∙ length-recovered_of found) inverts.takes
 
 -- the inverse times the syndromes is the lost slices
 pub answer : (survivors : code.Survivors) → CanRebuild survivors → (missing : List ℕ) (kept : List (ℕ × List ℕ)) (inverse made : List (List ℕ)) → missing ≡ lost_from 0 survivors.known.items

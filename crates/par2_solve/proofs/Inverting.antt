@@ -1,5 +1,5 @@
 -- The inverse of the matrix of the kept exponents.
-use Rattle.par2_solve.proofs.Common.{inl, inr, ℕ, ◌+◌, ◌*◌, ◌/◌, ◌%◌, ◌<◌, ◌≤◌, ◌≡◌, ◌≢◌, refl, sym, ap, ◌∙◌, arith, cond, List, [], ◌∷◌, ◌++◌, Vec, Global, length, get_or, map, subst, bit_xor, Bor, xor_zero_l, cases_eq, eq-eqb, ne_eqb, get_or-map, length-map, length-replicate, mul, coefficient, word, dot, coefficients, kept, field_sum, list_at, lists_of, GivesElements, zero-product, product_comm, product-one, all_at, all_from, all_get, field_sum_same, field_sum_one, coefficients_are, dot-lt, words_are, bytes_at, combination_words, word-lt, Equations, IsTheSolution, AreByteRows, IsUnit, recovery_at, IsEliminated, IsInverseMatrix, identity, Adds, products, recovered_of, buffers_of, AreBlank, AreSolutionBuffers, GivesUnit, IsVector, AllByRecursion, ◌^◌}
+use Rattle.par2_solve.proofs.Common.{inl, inr, ℕ, ◌+◌, ◌*◌, ◌/◌, ◌%◌, ◌<◌, ◌≤◌, ◌≡◌, ◌≢◌, refl, sym, ap, ◌∙◌, arith, cond, List, [], ◌∷◌, ◌++◌, Vec, Global, length, get_or, map, subst, bit_xor, Bor, xor_zero_l, cases_eq, eq-eqb, ne_eqb, get_or-map, length-map, length-replicate, mul, coefficient, word, dot, coefficients, kept, field_sum, list_at, lists_of, GivesElements, zero-product, product_comm, product-one, all_at, all_from, all_get, field_sum_same, field_sum_one, coefficients_are, dot-lt, words_are, bytes_at, combination_words, word-lt, Equations, IsTheSolution, AreByteRows, IsUnit, recovery_at, IsEliminated, IsInverseMatrix, identity, Adds, products, recovered_of, buffers_of, AreBlank, AreSolutionBuffers, combination, IsVector, AllByRecursion, ◌^◌}
 use Rattle.par2_matrix.specs.Echelon.{HoldsRow}
 use Rattle.par2_matrix.specs.Systems as systems
 use Rattle.par2_solve.proofs.Dots.{combined}
@@ -87,12 +87,13 @@ row_vector n system buffers rows are_buffers bytes are i h = (
 
 -- if a row times the buffers is a unit vector, the row times their elements is a row of the identity
 pub unit_product : (m n j k : ℕ) (row : List ℕ) (buffers rows : List (List ℕ)) → length row ≤ m → AllByRecursion (λ c. c < 2 ^ 16) row → AllByRecursion (λ (content : List ℕ). AllByRecursion (λ b. b < 256) content) buffers
-    → ((i : ℕ) → i < m → word k (list_at buffers i) ≡ get_or (list_at rows i) k 0) → k < n → GivesUnit n j row buffers → field_sum m (λ i. mul (get_or row i 0) (get_or (list_at rows i) k 0)) ≡ identity j k
-unit_product m n j k row buffers rows fit elements bytes read low gives =
+    → ((i : ℕ) → i < m → word k (list_at buffers i) ≡ get_or (list_at rows i) k 0) → k < n → IsUnit n j (combination (2 * n) row buffers) → field_sum m (λ i. mul (get_or row i 0) (get_or (list_at rows i) k 0)) ≡ identity j k
+unit_product m n j k row buffers rows fit elements bytes read low is =
+    let unit = combination (2 * n) row buffers in
     field_sum_same m (λ i. mul (get_or row i 0) (get_or (list_at rows i) k 0)) (λ i. mul (get_or row i 0) (word k (list_at buffers i))) (λ i hi. ap (mul (get_or row i 0)) (sym (read i hi)))
     ∙ sym (dot_at m row buffers k fit)
-    ∙ (combination_words (2 * n) row buffers gives.unit (omega arith) (λ p. dot-lt row (map (word p) buffers) elements (words_are p buffers bytes)) gives.is_unit.size (unit_bytes n j gives.unit gives.is_unit)).0 gives.combined k (omega (arith, low))
-    ∙ unit_word n j gives.unit k gives.is_unit
+    ∙ (combination_words (2 * n) row buffers unit (omega arith) (λ p. dot-lt row (map (word p) buffers) elements (words_are p buffers bytes)) is.size (unit_bytes n j unit is)).0 refl k (omega (arith, low))
+    ∙ unit_word n j unit k is
 
 pub are_inverse : (lost : List ℕ) (recs kept_ones : List (ℕ × List ℕ)) (system : Equations) (buffers rows : List (List ℕ)) → IsEliminated lost recs kept_ones system → IsTheSolution system buffers
     → systems.rank system ≡ system.columns → AreByteRows rows buffers (length buffers) → IsInverseMatrix lost (map (λ r. r.0) kept_ones) rows

@@ -1,18 +1,22 @@
 -- Exponents that are close, and runs of them, by their indices.
 use Rattle.par2_solve.specs.declared.exponents.Lost.{Lost}
-use Rattle.par2_solve.proofs.Common.{AreSlices, AreClose, HasRun, all_from, Option, IfSome, slice_get, Contains, range_with_len, [], ◌∷◌, ◌↔◌, IsTrue, false, eqb, ltb, ℕ, zero, suc, ◌+◌, ◌-◌, ◌<◌, ◌≤◌, ◌≡◌, refl, sym, ap, ◌∙◌, subst, arith, inl, inr, List, length, get_or, drop, take, IsStrictlyIncreasing, cases_lt, eqb-false, ltb-true, lt-ltb, false≢true, get_or-take, get_or-drop, get_or_default, length-take-le, length-drop, Contains-get_or, get_or-range_with_len, length-range_with_len}
+use Rattle.par2_solve.proofs.Common.{All, recursion_from_All, AreSlices, AreClose, HasRun, all_from, Option, IfSome, IsNone, slice_get, Contains, range_with_len, [], ◌∷◌, ◌↔◌, IsTrue, false, eqb, ltb, ℕ, zero, suc, ◌+◌, ◌-◌, ◌<◌, ◌≤◌, ◌≡◌, refl, sym, ap, ◌∙◌, subst, arith, inl, inr, List, length, get_or, drop, take, IsStrictlyIncreasing, cases_lt, eqb-false, ltb-true, lt-ltb, false≢true, get_or-take, get_or-drop, get_or_default, length-take-le, length-drop, Contains-get_or, get_or-range_with_len, length-range_with_len}
 
 -- numbers of slices that rise
-pub are_slices : (numbers : List ℕ) → IsStrictlyIncreasing numbers → ((i : ℕ) → get_or numbers i 0 < 32768) → AreSlices numbers
-are_slices numbers rise below = record { rise = rise; below = all_from (λ k. k < 32768) 0 numbers (λ i _. below i) }
+pub slices_from : (numbers : List ℕ) → IsStrictlyIncreasing numbers → All (λ k. k < 32768) numbers → AreSlices numbers
+slices_from numbers rise below = record { rise = rise; below = recursion_from_All (λ k. k < 32768) numbers below }
 
 pub slices_of : (lost : Lost) → AreSlices lost.numbers.now
-slices_of lost = are_slices lost.numbers.now lost.rise lost.below
+slices_of lost = record { rise = lost.rise; below = all_from (λ k. k < 32768) 0 lost.numbers.now (λ i _. lost.below i) }
 
 -- what holds of the first number
 pub first_is : (P : ℕ → Type 0) (xs : List ℕ) (r : Option ℕ) → r ≡ slice_get xs 0 → P (get_or xs 0 0) → IfSome r P
 first_is P [] r is holds = subst (λ o. IfSome o P) (sym is) tt
 first_is P (x ∷ xs) r is holds = subst (λ o. IfSome o P) (sym is) holds
+
+pub some_first : (xs : List ℕ) (r : Option ℕ) → r ≡ slice_get xs 0 → 0 < length xs → IsNone r → ⊥
+some_first [] r is some none = absurd (omega arith)
+some_first (x ∷ xs) r is some none = false≢true (sym (subst IsNone is none))
 
 -- numbers that rise do so by at least one
 rises_by : (xs : List ℕ) → IsStrictlyIncreasing xs → (i k : ℕ) → i + k < length xs → get_or xs i 0 + k ≤ get_or xs (i + k) 0

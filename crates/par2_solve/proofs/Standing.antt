@@ -1,5 +1,5 @@
 -- The loop that offers the surviving recovery slices.
-use Rattle.par2_solve.proofs.Common.{inl, inr, length-append, ℕ, ◌+◌, ◌*◌, ◌<◌, ◌≡◌, ◌↔◌, refl, sym, ap, ap₂, ◌∙◌, subst, arith, Bool, true, false, cond, eqb, ◌&&◌, ◌||◌, List, [], ◌∷◌, ◌++◌, length, get_or, map, append-nil, take, filter, list_any, AllByRecursion, IsStrictlyIncreasing, eqb-true, eq-eqb, cases_lt, get_or-map, length-map, map-append, get_or_append_left, get_or_at, take_all, dot, coefficients, combination, IsVector, IsRepairable, Kills, kept, kept_slices, Equations, CutDown, IsIndependent, IsDependent, Solves, AreSolutionBuffers, OnlyZeroIsKilled, recovered_of, IsUnit, recovery_at, CutByUnit, GivesUnit, IsEliminated, Bor, all-map, all_unmap}
+use Rattle.par2_solve.proofs.Common.{inl, inr, length-append, ℕ, ◌+◌, ◌*◌, ◌<◌, ◌≡◌, ◌↔◌, refl, sym, ap, ap₂, ◌∙◌, subst, arith, Bool, true, false, cond, eqb, ◌&&◌, ◌||◌, List, [], ◌∷◌, ◌++◌, length, get_or, map, append-nil, take, filter, list_any, AllByRecursion, IsStrictlyIncreasing, eqb-true, eq-eqb, cases_lt, get_or-map, length-map, map-append, get_or_append_left, get_or_at, take_all, dot, coefficients, combination, IsVector, IsRepairable, Kills, kept, kept_slices, Equations, CutDown, IsIndependent, IsDependent, Solves, AreSolutionBuffers, OnlyZeroIsKilled, recovered_of, IsUnit, recovery_at, CutByUnit, IsEliminated, Bor, all-map, all_unmap}
 use Rattle.std.proofs.lemmas.Map.Views.{any-filter_same}
 use Rattle.par2_spec.proofs.RankLaws.{all_weaker}
 use Rattle.std.proofs.Math.Bool.{and-true, or-true}
@@ -40,7 +40,7 @@ pub record Standing (lost : List ℕ) (recs kept : List (ℕ × List ℕ)) (i : 
   pub are_kept : kept ≡ filter (λ r. is_kept lost (map (λ r. r.0) recs) r.0) (take i recs)
   pub count : systems.rank system ≡ length kept
   pub solves : (buffers : List (List ℕ)) → AreSolutionBuffers system buffers → Solves system buffers
-      → (j : ℕ) → j < length kept → GivesUnit (length lost) j (coefficients lost (recovery_at kept j).0) buffers
+      → (j : ℕ) → j < length kept → IsUnit (length lost) j (combination (2 * length lost) (coefficients lost (recovery_at kept j).0) buffers)
 
 -- a recovery slice was kept
 pub stands_more : (lost : List ℕ) (recs kept_ones : List (ℕ × List ℕ)) (i : ℕ) (system new : Equations) → IsStrictlyIncreasing (map (λ r. r.0) recs) → i < length recs
@@ -69,17 +69,14 @@ stands_more lost recs kept_ones i system new up h before columns new_bytes made 
           let both = (made.cut.solves buffers are_old).0 solved in
           elim (cases_lt j (length kept_ones)) [
             | inl early ↦
-                subst (λ (r : ℕ × List ℕ). GivesUnit (length lost) j (coefficients lost r.0) buffers) (sym (get_or_append_left kept_ones (found ∷ []) (0, []) j early))
+                subst (λ (r : ℕ × List ℕ). IsUnit (length lost) j (combination (2 * length lost) (coefficients lost r.0) buffers)) (sym (get_or_append_left kept_ones (found ∷ []) (0, []) j early))
                 (before.solves buffers are_old both.0 j early)
             | inr late ↦
                 let last : j ≡ length kept_ones = (let n = length-append kept_ones (found ∷ []) in omega (arith, n)) in
-                subst (λ m. GivesUnit (length lost) m (coefficients lost (recovery_at (kept_ones ++ found ∷ []) m).0) buffers) (sym last)
-                (subst (λ (r : ℕ × List ℕ). GivesUnit (length lost) (length kept_ones) (coefficients lost r.0) buffers) (sym (get_or_at kept_ones found [] (0, []) (length kept_ones) refl))
-                (record {
-                  unit = made.unit;
-                  is_unit = subst (λ m. IsUnit m (length kept_ones) made.unit) before.so_far.columns (subst (λ m. IsUnit system.columns m made.unit) before.count made.is_unit);
-                  combined = subst (λ m. combination m (coefficients lost found.0) buffers ≡ made.unit) before.bytes both.1;
-                }))
+                subst (λ m. IsUnit (length lost) m (combination (2 * length lost) (coefficients lost (recovery_at (kept_ones ++ found ∷ []) m).0) buffers)) (sym last)
+                (subst (λ (r : ℕ × List ℕ). IsUnit (length lost) (length kept_ones) (combination (2 * length lost) (coefficients lost r.0) buffers)) (sym (get_or_at kept_ones found [] (0, []) (length kept_ones) refl))
+                (subst (IsUnit (length lost) (length kept_ones)) (sym (subst (λ m. combination m (coefficients lost found.0) buffers ≡ made.unit) before.bytes both.1))
+                (subst (λ m. IsUnit m (length kept_ones) made.unit) before.so_far.columns (subst (λ m. IsUnit system.columns m made.unit) before.count made.is_unit))))
           ];
     }
 

@@ -13,7 +13,6 @@ use Rattle.std.proofs.lemmas.List.Kept.{IsStrictlyIncreasing-filter}
 use Rattle.par2_spec.proofs.FieldConstants.{range_rises}
 use Rattle.std.proofs.lemmas.Map.Views.{Contains-from_any, list_any-from_Contains}
 use Rattle.std.specs.List.{list_any}
-use Rattle.par2_solve.specs.Inverses.{GivesUnit}
 use Rattle.par2_solve.specs.Elements.{IsUnit}
 use Rattle.par2_solve.specs.Holes.{locator, shifted_at, shifted, span, is_hole, holes, KilledByShifts, OnlyZeroFits, AreHoleEquations}
 use Rattle.par2_solve.proofs.Combinations.{coefficients-lt}
@@ -248,8 +247,8 @@ one_equation_more p places row right m u old new before columns bytes is unit cu
         | inl early ↦ before.solves buffers are_old both.0 k early inside
         | inr late ↦
             let last : u ≡ k = omega (arith, low, late) in
-            subst (λ j. GivesUnit m j (shifted p j places) buffers) last
-            (record { unit = right; is_unit = unit (omega (arith, last, inside)); combined = ap₂ (λ b xs. combination b xs buffers) (sym before.bytes) (sym is) ∙ both.1 })
+            subst (λ j. IsUnit m j (combination (2 * m) (shifted p j places) buffers)) last
+            (subst (IsUnit m u) (sym (ap₂ (λ b xs. combination b xs buffers) (sym before.bytes) (sym is) ∙ both.1)) (unit (omega (arith, last, inside))))
       ];
 }
 

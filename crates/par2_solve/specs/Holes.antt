@@ -5,10 +5,11 @@ use Rattle.std.specs.List.{AllByRecursion, list_any, range_with_len}
 use Rattle.par2_spec.specs.Field.{constant, mul}
 use Rattle.par2_spec.specs.Polynomials.{with_roots}
 use Rattle.par2_spec.specs.Rank.{IsVector}
-use Rattle.par2_spec.specs.Recovery.{dot}
+use Rattle.par2_spec.specs.Recovery.{combination, dot}
 use Rattle.par2_spec.specs.Sums.{field_sum, list_at}
 use Rattle.par2_matrix.specs.Systems.{AreSolutionBuffers, Equations, IsKilled, Solves}
-use Rattle.par2_solve.specs.Inverses.{GivesUnit, identity}
+use Rattle.par2_solve.specs.Elements.{IsUnit}
+use Rattle.par2_solve.specs.Inverses.{identity}
 
 -- the error locator (Peterson 1960): the polynomial whose roots are the constants of the lost slices
 abbrev pub locator : List ℕ → List ℕ
@@ -50,7 +51,7 @@ pub record AreHoleEquations (p places : List ℕ) (m n : ℕ) (system : Equation
   pub bytes : system.bytes ≡ 2 * m
   pub kills : (v : List ℕ) → IsVector (length places) v → KilledByShifts p places n v → IsKilled system v
   pub solves : (buffers : List (List ℕ)) → AreSolutionBuffers system buffers → Solves system buffers
-      → (u : ℕ) → u < n → u < m → GivesUnit m u (shifted p u places) buffers
+      → (u : ℕ) → u < n → u < m → IsUnit m u (combination (2 * m) (shifted p u places) buffers)
 
 -- The inverse of the matrix of the first n equations of the holes. Its product with this matrix is the identity, and
 -- only the zero vector satisfies the equations.

@@ -18,12 +18,6 @@ pub record CutByUnit (old new : Equations) (row : List ℕ) : Type 0 where
   pub is_unit : IsUnit old.columns (rank old) unit
   pub cut : CutDown old new row unit
 
--- the row times the buffers is unit vector j of n elements
-pub record GivesUnit (n j : ℕ) (row : List ℕ) (buffers : List (List ℕ)) : Type 0 where
-  pub unit : List ℕ
-  pub is_unit : IsUnit n j unit
-  pub combined : combination (2 * n) row buffers ≡ unit
-
 -- The system after elimination: its rank is that of the exponents, and its solution is the inverse, because equation j
 -- has unit vector j as its right-hand side.
 pub record IsEliminated (lost : List ℕ) (recovery kept : List (ℕ × List ℕ)) (system : Equations) : Type 0 where
@@ -34,7 +28,7 @@ pub record IsEliminated (lost : List ℕ) (recovery kept : List (ℕ × List ℕ
   pub rank : rank system ≡ ranks.rank lost (map (λ r. r.0) recovery)
   pub repairable : OnlyZeroIsKilled system ↔ IsRepairable lost (map (λ r. r.0) recovery)
   pub solves : (buffers : List (List ℕ)) → AreSolutionBuffers system buffers → Solves system buffers
-      → (j : ℕ) → j < length kept → GivesUnit (length lost) j (coefficients lost (recovery_at kept j).0) buffers
+      → (j : ℕ) → j < length kept → IsUnit (length lost) j (combination (2 * length lost) (coefficients lost (recovery_at kept j).0) buffers)
 
 -- the identity matrix: 1 on the diagonal, else 0
 abbrev pub identity : ℕ → ℕ → ℕ

@@ -29,16 +29,10 @@ TakesSources n (Rows rows) = (r : ℕ) → r < length rows.items → n ≤ lengt
 TakesSources n (Located locator) = length locator.numerators.sequence.items ≡ n
 TakesSources n (Filled filling) = IsFilled n filling
 
--- the inverse has n columns, as far as its rows don't say so themselves
-abbrev pub IsWide : ℕ → Inverse → Type 0
-IsWide n (Rows rows) = Unit {0}
-IsWide n (Located locator) = length locator.numerators.sequence.items ≡ n
-IsWide n (Filled filling) = IsFilled n filling
-
 -- it is the inverse of the matrix that the lost slices' constants and these exponents give
 pub record Inverts (lost exponents : List ℕ) (inverse : Inverse) : Type 0 where
   pub is_inverse : IsInverseMatrix lost exponents (rows_of inverse)
-  pub wide : IsWide (length lost) inverse
+  pub takes : TakesSources (length lost) inverse
 
 -- it is the inverse for the first exponents, as many as slices are lost, and these determine the lost slices
 pub record InvertsFirst (lost exponents : List ℕ) (inverse : Inverse) : Type 0 where

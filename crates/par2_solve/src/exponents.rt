@@ -2,12 +2,12 @@
 //! exponents first (`rank_by_runs`), which takes no memory, then tries the equations of the holes between them
 //! (`determine`), and last the elimination of all equations.
 
-ghost use Rattle.std.specs.Prelude.{◌≡◌, ◌≢◌, ◌↔◌, ◌<◌, ◌≤◌, ℕ, length, slice_index, IfOk, IfSome, IsTrue, Ok};
+ghost use Rattle.std.specs.Prelude.{◌≡◌, ◌≢◌, ◌↔◌, ◌<◌, ◌≤◌, ℕ, length, slice_index, take, IfOk, IfSome, IsNone, IsTrue, Ok};
 ghost use Rattle.std.specs.List.Sorted.{IsStrictlyIncreasing};
 ghost use Rattle.par2_spec.specs.Field.{coefficient};
 ghost use Rattle.par2_spec.specs.Recovery.{coefficients};
 ghost use Rattle.par2_spec.specs.Rank.{rank, IsRepairable};
-ghost use Rattle.par2_spec.specs.Runs.{AreClose, HasRun};
+ghost use Rattle.par2_spec.specs.Runs.{AreClose, AreSlices, HasRun};
 ghost use Rattle.par2_matrix.specs.Systems.{CutDown, IsIndependent, IsDependent};
 
 use crate::holes::determine;
@@ -25,19 +25,25 @@ pub(crate) struct Lost<'a> {
     ghost rise: { IsStrictlyIncreasing numbers.now },
 }
 
-// The coefficient of input slice `k` in the recovery slice of exponent `e`: the slice's constant to the power `e`.
-#[tactic(auto, unfolding(par2_spec::specs::Field::coefficient))]
+/// Exponents in increasing order.
+#[derive(Clone, Copy)]
+pub(crate) struct Exponents<'a> {
+    pub(crate) numbers: &'a [u32],
+    ghost rise: { IsStrictlyIncreasing numbers.now },
+}
+
+// The coefficient of input slice `k` in the recovery slice of exponent `e`: the slice's constant to the power `e`. A
+// number past the last slice counts as one with the constant 1.
+#[tactic(auto, unfolding(par2_spec::specs::Field::coefficient), using(crate::proofs::Combinations::constant_past))]
 fn coefficient(gf: &Gf, k: u32, e: u32) -> u16
-    requires { k < 32768 }
     ensures { result ≡ coefficient e k }
 {
-    gf.pow(gf.constant(k).unwrap(), e)
+    gf.pow(gf.constant(k).unwrap_or(1), e)
 }
 
 /// The coefficient of each of the input slices `numbers` in the recovery slice of exponent `e`. For the lost slices
 /// this is the left-hand side of the exponent's equation.
 pub(crate) fn coefficients(alloc: Global, gf: &Gf, numbers: &[u32], e: u32) -> Result<Vec<u16>>
-    requires { (i : ℕ) → slice_index numbers.now i < 32768 }
     ensures { IfOk result (λ row. row.items ≡ coefficients numbers.now e) }
 {
     let row = numbers.iter().map(|k| coefficient(gf, *k, e));
@@ -56,7 +62,6 @@ pub(crate) fn offer(
     right: Vec<u8>,
 ) -> Result<Offer>
     // The system has a column for each lost slice and right-hand sides as long as this one.
-    requires lost { (i : ℕ) → slice_index lost.now i < 32768 }
     requires columns { system.old.columns ≡ length lost.now }
     requires right { length right.items ≡ system.old.bytes }
     // The result says whether the row was independent of those kept before, and a kept one is added
@@ -85,47 +90,70 @@ pub(crate) fn rise(numbers: &[u32]) -> bool
     numbers.windows(2).all(|pair| pair[0] < pair[1])
 }
 
-/// Whether any two of these increasing exponents differ by less than `count`. It is enough to compare the first and
-/// the last.
-pub(crate) fn are_close(exponents: &[u32], count: usize) -> bool
-    requires { IsStrictlyIncreasing exponents.now }
-    ensures { IsTrue result ↔ AreClose count exponents.now }
+/// Whether these are increasing numbers of input slices, as those of `Lost` are.
+#[tactic(auto, using(crate::proofs::Runs::slices_from))]
+pub(crate) fn are_slices(numbers: &[u32]) -> bool
+    ensures { IsTrue result → AreSlices numbers.now }
 {
-    if exponents.is_empty() {
-        return true;
-    }
-    let span = exponents[exponents.len() - 1] - exponents[0];
-    (span as usize) < count
+    rise(numbers) && numbers.iter().all(|k| *k < 32768)
 }
 
-// Whether `count` of these increasing exponents are consecutive: they are if they lie within `count` numbers.
-fn has_run(exponents: &[u32], count: usize) -> bool
-    requires { IsStrictlyIncreasing exponents.now }
-    ensures { IsTrue result ↔ (first : ℕ) × HasRun first count exponents.now }
-{
-    for end in count..=exponents.len() {
-        if are_close(&exponents[end - count..end], count) {
+impl<'a> Exponents<'a> {
+    /// Whether any two of the exponents differ by less than `count`. It is enough to compare the first and the last.
+    pub(crate) fn are_close(&self, count: usize) -> bool
+        ensures { IsTrue result ↔ AreClose count self.now.numbers.now }
+    {
+        let exponents = self.numbers;
+        if exponents.is_empty() {
             return true;
         }
+        let span = exponents[exponents.len() - 1] - exponents[0];
+        (span as usize) < count
     }
-    false
+
+    // Whether `count` of the exponents are consecutive: they are if they lie within `count` numbers.
+    fn has_run(&self, count: usize) -> bool
+        ensures { IsTrue result ↔ (first : ℕ) × HasRun first count self.now.numbers.now }
+    {
+        for end in count..=self.numbers.len() {
+            let numbers = &self.numbers[end - count..end];
+            let part = Exponents { numbers };
+            if part.are_close(count) {
+                return true;
+            }
+        }
+        false
+    }
+
+    /// The first `count` exponents, if there are that many.
+    pub(crate) fn first(&self, count: usize) -> Option<Exponents<'a>>
+        ensures first { IfSome result (λ first. first.numbers.now ≡ take count self.now.numbers.now) }
+        ensures count { IfSome result (λ first. length first.numbers.now ≡ count) }
+        ensures none { IsNone result → length self.now.numbers.now < count }
+    {
+        if self.numbers.len() < count {
+            return None;
+        }
+        let numbers = &self.numbers[..count];
+        Some(Exponents { numbers })
+    }
 }
 
 /// The rank, if the exponents alone determine it: either any two of them differ by less than the number of lost slices,
-/// or a run of consecutive ones is as long as that. None otherwise, and if `lost` isn't increasing. It takes no memory
-/// and passes over the exponents once.
+/// or a run of consecutive ones is as long as that. None otherwise, and if `lost` aren't increasing numbers of slices.
+/// It takes no memory and passes over the exponents once.
 pub fn rank_by_runs(lost: &[u32], exponents: &[u32]) -> Option<usize>
-    requires lost { (i : ℕ) → slice_index lost.now i < 32768 }
-    requires exponents { IsStrictlyIncreasing exponents.now }
+    requires { IsStrictlyIncreasing exponents.now }
     ensures { IfSome result (λ n. n ≡ rank lost.now exponents.now) }
 {
-    if !rise(lost) {
+    if !are_slices(lost) {
         return None;
     }
-    if are_close(exponents, lost.len()) {
-        return Some(exponents.len());
+    let exponents = Exponents { numbers: exponents };
+    if exponents.are_close(lost.len()) {
+        return Some(exponents.numbers.len());
     }
-    if has_run(exponents, lost.len()) {
+    if exponents.has_run(lost.len()) {
         return Some(lost.len());
     }
     None
@@ -133,8 +161,7 @@ pub fn rank_by_runs(lost: &[u32], exponents: &[u32]) -> Option<usize>
 
 // The rank by elimination of the equations of all exponents. The rank needs no right-hand sides, so they are empty.
 fn rank_by_elimination(alloc: Global, gf: &Gf, lost: &[u32], exponents: &[u32]) -> Result<usize>
-    requires lost { (i : ℕ) → slice_index lost.now i < 32768 }
-    requires exponents { IsStrictlyIncreasing exponents.now }
+    requires { IsStrictlyIncreasing exponents.now }
     ensures { IfOk result (λ n. n ≡ rank lost.now exponents.now) }
 {
     let mut system = System::new(alloc, lost.len(), 0)?;
@@ -147,11 +174,11 @@ fn rank_by_elimination(alloc: Global, gf: &Gf, lost: &[u32], exponents: &[u32]) 
 /// The rank by equations: those of the holes between the first exponents if these settle it, otherwise those of all
 /// exponents. A caller that has the field's tables calls `rank`, which asks `rank_by_runs` first.
 pub fn rank_by_equations(alloc: Global, gf: &Gf, lost: &[u32], exponents: &[u32]) -> Result<usize>
-    requires lost { (i : ℕ) → slice_index lost.now i < 32768 }
-    requires exponents { IsStrictlyIncreasing exponents.now }
+    requires { IsStrictlyIncreasing exponents.now }
     ensures { IfOk result (λ n. n ≡ rank lost.now exponents.now) }
 {
-    if determine(alloc, gf, lost, exponents)? {
+    let rising = Exponents { numbers: exponents };
+    if determine(alloc, gf, lost, &rising)? {
         return Ok(lost.len());
     }
     rank_by_elimination(alloc, gf, lost, exponents)
@@ -160,8 +187,7 @@ pub fn rank_by_equations(alloc: Global, gf: &Gf, lost: &[u32], exponents: &[u32]
 /// The rank of the exponents' equations for these lost slices, which is how many exponents are kept. It equals the
 /// number of lost slices exactly if the recovery slices of these exponents determine them.
 pub fn rank(alloc: Global, gf: &Gf, lost: &[u32], exponents: &[u32]) -> Result<usize>
-    requires lost { (i : ℕ) → slice_index lost.now i < 32768 }
-    requires exponents { IsStrictlyIncreasing exponents.now }
+    requires { IsStrictlyIncreasing exponents.now }
     ensures rank { IfOk result (λ n. n ≡ rank lost.now exponents.now) }
     ensures most { IfOk result (λ n. n ≤ length lost.now) }
     ensures full { IfOk result (λ n. (n ≡ length lost.now) ↔ IsRepairable lost.now exponents.now) }

@@ -7,7 +7,6 @@
 
 ghost use Rattle.std.specs.Prelude.{◌≡◌, ◌+◌, ◌%◌, ◌<◌, ◌≤◌, [], length, map, slice_index, take, IfOk, IfSome, IsTrue};
 ghost use Rattle.std.specs.List.{Contains};
-ghost use Rattle.std.specs.List.Sorted.{IsStrictlyIncreasing};
 ghost use Rattle.par2_spec.specs.Sums.{lists_of};
 ghost use Rattle.par2_solve.specs.Filling.{AreOrigins, IsFilled, IsOriginAt, falling, filled_rows, from_last, from_origin, hole_rows, known_rows};
 ghost use Rattle.par2_solve.specs.Holes.{holes, span};
@@ -15,7 +14,7 @@ ghost use Rattle.par2_solve.specs.Solvers.{InvertsFirst};
 ghost use Rattle.par2_solve.specs.Syndromes.{AreProducts};
 ghost use Rattle.par2_solve.specs.BufferContents.{buffers_of};
 
-use crate::exponents::Lost;
+use crate::exponents::{Exponents, Lost};
 use crate::holes::{Window, front, hole_inverse, locator};
 use crate::products::{Size, buffer_at, buffers_fit, products_of, source_at};
 use crate::recovery::blank;
@@ -122,11 +121,10 @@ pub(crate) fn inverse_over_holes<'a>(
     alloc: Global,
     gf: &'a Gf,
     lost: &Lost,
-    exponents: &[u32],
+    exponents: &Exponents,
 ) -> Result<Option<Inverse<'a>>>
-    requires { IsStrictlyIncreasing exponents.now }
     ensures { IfOk result (λ found.
-        IfSome found (InvertsFirst lost.now.numbers.now exponents.now)) }
+        IfSome found (InvertsFirst lost.now.numbers.now exponents.now.numbers.now)) }
 {
     let Some(first) = front(exponents, lost.numbers.len()) else {
         return Ok(None);

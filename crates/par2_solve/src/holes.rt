@@ -12,7 +12,7 @@ ghost use Rattle.par2_spec.specs.Rank.{IsRepairable};
 ghost use Rattle.par2_spec.specs.Sums.{lists_of};
 ghost use Rattle.par2_solve.specs.Holes.{shifted_at, shifted, span, is_hole, holes, locator, AreHoleEquations, AreHoleInverse, OnlyZeroFits};
 
-use crate::exponents::{are_close, coefficients, rise};
+use crate::exponents::{Exponents, are_slices, coefficients};
 use crate::inverse::{rows_of, unit};
 use crate::run_inverse::with_roots;
 use par2_gf16::Gf;
@@ -20,7 +20,7 @@ use par2_matrix::{Offer, System};
 use par2_spec::Result;
 use std::alloc::Global;
 
-/// Increasing exponents, at least one. The numbers from the first one to the last are their window.
+/// Exponents in increasing order, at least one. The numbers from the first one to the last are their window.
 #[derive(Clone, Copy)]
 pub(crate) struct Window<'a> {
     pub(crate) exponents: &'a [u32],
@@ -30,20 +30,20 @@ pub(crate) struct Window<'a> {
 
 /// The first `count` exponents, if there are at most as many holes between them. With more holes, their equations would
 /// outnumber those of the exponents, and elimination would be as fast.
-pub(crate) fn front(exponents: &[u32], count: usize) -> Option<Window>
-    requires { IsStrictlyIncreasing exponents.now }
+pub(crate) fn front<'a>(exponents: &Exponents<'a>, count: usize) -> Option<Window<'a>>
     // It returns the first `count` exponents, and at most `count` numbers are missing between them.
-    ensures first { IfSome result (λ first. first.exponents.now ≡ take count exponents.now) }
+    ensures first { IfSome result (λ first. first.exponents.now ≡ take count exponents.now.numbers.now) }
     ensures count { IfSome result (λ first. length first.exponents.now ≡ count) }
     ensures near { IfSome result (λ first. span first.exponents.now < 2 * count) }
 {
-    if count == 0 || exponents.len() < count {
+    if count == 0 {
         return None;
     }
-    let exponents = &exponents[..count];
-    if !are_close(exponents, count.saturating_mul(2)) {
+    let first = exponents.first(count)?;
+    if !first.are_close(count.saturating_mul(2)) {
         return None;
     }
+    let exponents = first.numbers;
     Some(Window { exponents })
 }
 
@@ -135,7 +135,6 @@ fn hole_system(
 /// The error locator of the lost slices: the coefficients, from `z ^ 0` on, of the polynomial whose roots are their
 /// constants.
 pub(crate) fn locator(alloc: Global, gf: &Gf, lost: &[u32]) -> Result<Vec<u16>>
-    requires lost { (i : ℕ) → slice_index lost.now i < 32768 }
     ensures { IfOk result (λ p. p.items ≡ locator lost.now) }
 {
     // Exponent 1 multiplies each slice by its constant.
@@ -146,7 +145,6 @@ pub(crate) fn locator(alloc: Global, gf: &Gf, lost: &[u32]) -> Result<Vec<u16>>
 // Whether the first `count` equations of the holes at these places are independent and as many as the holes. Then they
 // determine the holes' sums, and the exponents around the holes determine the lost slices.
 fn are_regular(alloc: Global, gf: &Gf, lost: &[u32], places: &[u32], count: usize) -> Result<bool>
-    requires lost { (i : ℕ) → slice_index lost.now i < 32768 }
     ensures { IfOk result (λ yes. IsTrue yes → OnlyZeroFits (locator lost.now) places.now count) }
 {
     let locator = locator(alloc, gf, lost)?;
@@ -184,12 +182,10 @@ pub(crate) fn hole_inverse(
 /// Whether the first exponents, as many as slices are lost, determine these by the equations of the holes between them.
 /// If it returns false, they may still do so. For h holes it takes h^3 products of single words, and memory for h^2
 /// words.
-pub(crate) fn determine(alloc: Global, gf: &Gf, lost: &[u32], exponents: &[u32]) -> Result<bool>
-    requires lost { (i : ℕ) → slice_index lost.now i < 32768 }
-    requires exponents { IsStrictlyIncreasing exponents.now }
-    ensures { IfOk result (λ yes. IsTrue yes → IsRepairable lost.now exponents.now) }
+pub(crate) fn determine(alloc: Global, gf: &Gf, lost: &[u32], exponents: &Exponents) -> Result<bool>
+    ensures { IfOk result (λ yes. IsTrue yes → IsRepairable lost.now exponents.now.numbers.now) }
 {
-    if !rise(lost) {
+    if !are_slices(lost) {
         return Ok(false);
     }
     let Some(first) = front(exponents, lost.len()) else {

@@ -18,7 +18,7 @@ ghost use Rattle.par2_solve.specs.Elements.{AreByteRows, IsUnit};
 ghost use Rattle.par2_solve.specs.RunInverses.{BeginsWithRun};
 ghost use Rattle.par2_solve.specs.Solvers.{InvertsFirst};
 
-use crate::exponents::{Lost, are_close, offer};
+use crate::exponents::{Exponents, Lost, offer};
 use crate::filling::inverse_over_holes;
 use crate::products::buffer_at;
 use crate::rebuild_slices::RebuildFault;
@@ -180,16 +180,16 @@ pub(crate) fn unit(alloc: Global, n: usize, i: usize) -> Result<Vec<u8>>
 
 // The first exponent, if the first `count` exponents are consecutive, and None otherwise. Because they rise, they are
 // consecutive if any two of them differ by less than `count`.
-fn run_at_front(exponents: &[u32], count: usize) -> Option<u32>
-    requires { IsStrictlyIncreasing exponents.now }
-    ensures run { IfSome result (λ first. BeginsWithRun first count exponents.now) }
+fn run_at_front(exponents: &Exponents, count: usize) -> Option<u32>
+    ensures run { IfSome result (λ first. BeginsWithRun first count exponents.now.numbers.now) }
     ensures none { IsNone result → (first : ℕ) → 0 < count
-        → BeginsWithRun first count exponents.now → ⊥ }
+        → BeginsWithRun first count exponents.now.numbers.now → ⊥ }
 {
-    if exponents.len() < count || !are_close(&exponents[..count], count) {
+    let first = exponents.first(count)?;
+    if !first.are_close(count) {
         return None;
     }
-    exponents.first().copied()
+    exponents.numbers.first().copied()
 }
 
 // The inverse for the first exponents, as many as slices are lost, if they are a run or have holes whose equations are
@@ -199,11 +199,10 @@ fn inverse_at_front<'a>(
     alloc: Global,
     gf: &'a Gf,
     lost: &Lost,
-    exponents: &[u32],
+    exponents: &Exponents,
 ) -> Result<Option<Inverse<'a>>>
-    requires { IsStrictlyIncreasing exponents.now }
     ensures { IfOk result (λ found.
-        IfSome found (InvertsFirst lost.now.numbers.now exponents.now)) }
+        IfSome found (InvertsFirst lost.now.numbers.now exponents.now.numbers.now)) }
 {
     if let Some(first) = run_at_front(exponents, lost.numbers.len()) {
         return Ok(Some(inverse_for_run(alloc, gf, lost, first)?));
@@ -232,7 +231,8 @@ pub(crate) fn invert<'a>(
     ensures enough { IsOk result → IsRepairable lost.now.numbers.now (exponents_of recovery.now) }
     ensures refused { IfErr result (IsTrueFault lost.now.numbers.now (exponents_of recovery.now)) }
 {
-    let exponents = exponents_of(alloc, recovery)?;
+    let numbers = exponents_of(alloc, recovery)?;
+    let exponents = Exponents { numbers: &numbers };
     let Some(inverse) = inverse_at_front(alloc, gf, lost, &exponents)? else {
         return invert_by_elimination(alloc, gf, lost, recovery);
     };

@@ -74,6 +74,7 @@ pub(crate) fn run_locator<'a>(
 
 /// The inverse for the exponents from `first` on, as many as slices are lost: its rows if these are few, otherwise the
 /// locator.
+#[tactic(auto, using(crate::proofs::Finishing::rows_take))]
 pub(crate) fn inverse_for_run<'a>(
     alloc: Global,
     gf: &'a Gf,

@@ -8,13 +8,13 @@ returns-in-Some c =
     let same = MatchOption-at_some _ (λ n. n ≡ rank c.args.lost.now c.args.exponents.now) c.in-Some.rank c.in-Some.is c.rank_by_runs.ensures in
     record {
       rank = same;
-      most = rw same (rank-le c.args.lost.now c.args.exponents.now c.requires.exponents);
-      full = rw same (full-iff c.args.lost.now c.args.exponents.now c.requires.exponents);
+      most = rw same (rank-le c.args.lost.now c.args.exponents.now c.requires);
+      full = rw same (full-iff c.args.lost.now c.args.exponents.now c.requires);
     }
 
 pub returns-in-None : goal.returns-in-None
 returns-in-None c = record {
   rank = c.rank_by_equations.ensures;
-  most = IfOk-weaker c.rank_by_equations.result _ _ (λ n same. rw same (rank-le c.args.lost.now c.args.exponents.now c.requires.exponents)) c.rank_by_equations.ensures;
-  full = IfOk-weaker c.rank_by_equations.result _ _ (λ n same. rw same (full-iff c.args.lost.now c.args.exponents.now c.requires.exponents)) c.rank_by_equations.ensures;
+  most = IfOk-weaker c.rank_by_equations.result _ _ (λ n same. rw same (rank-le c.args.lost.now c.args.exponents.now c.requires)) c.rank_by_equations.ensures;
+  full = IfOk-weaker c.rank_by_equations.result _ _ (λ n same. rw same (full-iff c.args.lost.now c.args.exponents.now c.requires)) c.rank_by_equations.ensures;
 }

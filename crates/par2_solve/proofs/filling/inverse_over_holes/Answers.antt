@@ -33,7 +33,7 @@ returns c =
     let sequence : c.in_ok-new.field-0.sequence.items ≡ falling (locator ks) (span es + 1) = c.in_ok-new.ensures.sequence ∙ c.in_ok-falling.ensures ∙ ap₂ falling p window in
     let both = inverts_over_holes ks es n filling (slices_of c.args.lost.now) c.in-Some.first.rise c.in-Some.first.some c.in-Some.ensures.count fit c.in_ok-new.ensures.count sequence inverse c.in_ok-origins.ensures c.in_ok-run_locator.ensures in
     record {
-      within = (let least = length-take (length ks) c.args.exponents.now in let long = ap (λ (xs : List ℕ). length xs) c.in-Some.ensures.first in let count = c.in-Some.ensures.count in omega (arith, least, long, count));
+      within = (let least = length-take (length ks) c.args.exponents.now.numbers.now in let long = ap (λ (xs : List ℕ). length xs) c.in-Some.ensures.first in let count = c.in-Some.ensures.count in omega (arith, least, long, count));
       inverts = subst (λ xs. Inverts ks xs (Filled filling)) c.in-Some.ensures.first both.0;
       enough = subst (IsRepairable ks) c.in-Some.ensures.first both.1;
     }

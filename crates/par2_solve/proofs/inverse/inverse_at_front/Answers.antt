@@ -8,9 +8,9 @@ returns-in-Some c =
     let lost = c.args.lost.now.numbers.now in
     let n = length lost in
     let f = c.in-Some.first in
-    let run : BeginsWithRun f n c.args.exponents.now = c.in-Some.ensures.run in
+    let run : BeginsWithRun f n c.args.exponents.now.numbers.now = c.in-Some.ensures.run in
     record {
-      within = front_within c.args.exponents.now f n run;
+      within = front_within c.args.exponents.now.numbers.now f n run;
       inverts = rw run c.in_ok-inverse_for_run.ensures;
       enough = rw run (run_determines lost (range_with_len f n) f (slices_of c.args.lost.now) (range_has f n));
     }

@@ -7,7 +7,10 @@ use Rattle.par2_solve.proofs.inverse.invert.Goals.{In-Some}
 use Rattle.par2_solve.proofs.inverse.invert.Goals as goal
 
 first : (c : In-Some) → InvertsFirst c.args.lost.now.numbers.now (exponents_of c.args.recovery.now) c.in-Some.inverse
-first c = rw (c.in-Some.is, c.deref.ensures.value, c.in_ok-exponents.ensures) at c.in_ok-inverse.ensures
+first c = rw (c.in-Some.is, c.deref.ensures.value, c.in_ok-numbers.ensures) at c.in_ok-inverse.ensures
+
+pub invariant_of-exponents : goal.invariant_of-exponents
+invariant_of-exponents c = record { rise = rw (c.deref.ensures.value, c.in_ok-numbers.ensures) c.requires }
 
 pub slice_bounds-from_slice-end : goal.slice_bounds-from_slice-end
 slice_bounds-from_slice-end c =

@@ -62,5 +62,5 @@ returns c =
           (subst (λ (xs : List ℕ). IsInverseMatrix lost run (quotient_rows (drop 1 roots) xs locator.factors.items)) (sym points)
           (subst (λ (xs : List ℕ). IsInverseMatrix lost run (quotient_rows (drop 1 roots) constants xs)) (sym c.in_ok-locator.ensures.factors)
           (located_inverse lost first factors (slices_of c.args.lost.now) given)));
-      wide = ap (λ (xs : List ℕ). length xs) sequence ∙ located_wide lost;
+      takes = ap (λ (xs : List ℕ). length xs) sequence ∙ located_wide lost;
     }

@@ -1,9 +1,6 @@
 use Rattle.par2_solve.proofs.Common.{length, get_or, ◌∙◌, ap, sym, arith, map_more, take_all, coefficients, range_with_len, all_coefficients}
-use Rattle.par2_solve.proofs.Combinations.{lists_push, range-lt}
+use Rattle.par2_solve.proofs.Combinations.{lists_push}
 use Rattle.par2_solve.proofs.encoder.Encoder.rows_over.Goals as goal
-
-pub coefficients-requires : goal.coefficients-requires
-coefficients-requires c = λ i. rw (c.deref.ensures.value, c.in_ok-numbers.ensures) (range-lt (length c.args.self.now.slices.now) i 32768 c.args.self.now.few (omega arith))
 
 pub loop-i-preserved : goal.loop-i-preserved
 loop-i-preserved c =

@@ -1,41 +1,41 @@
 use Rattle.par2_solve.proofs.Common.{rules, refl, sym, ◌∙◌, ◌-◌, ◌+◌, ◌≤◌, length, get_or, subst, drop, arith, take, false≢true, AreClose, IsStrictlyIncreasing}
 use Rattle.par2_solve.proofs.Runs.{close_run, no_run, one_less, part_is, part_rises}
-use Rattle.par2_solve.proofs.exponents.has_run.Goals as goal
+use Rattle.par2_solve.proofs.exponents.Exponents.has_run.Goals as goal
 
 pub returns-then-are_close : goal.returns-then-are_close
 returns-then-are_close c =
-    let xs = c.args.exponents.now in
+    let xs = c.args.self.now.numbers.now in
     let n = c.args.count in
     let end = c.loop-end.end in
     let within : n ≤ end = c.loop-end.auto.end in
     let close : AreClose n (take n (drop (end - n) xs)) = subst (λ m. AreClose n (take m (drop (end - n) xs))) (part_is end n within) (c.are_close.ensures.0 c.if-are_close.true) in
-    ((λ _. (get_or xs (end - n) 0, close_run xs (end - n) n c.requires (omega (arith, within, c.loop-end-test.true)) close)), (λ _. refl))
+    ((λ _. (get_or xs (end - n) 0, close_run xs (end - n) n c.args.self.now.rise (omega (arith, within, c.loop-end-test.true)) close)), (λ _. refl))
 
 pub loop-end-preserved : goal.loop-end-preserved
 loop-end-preserved c =
-    let xs = c.args.exponents.now in
+    let xs = c.args.self.now.numbers.now in
     let n = c.args.count in
     let end = c.loop-end.end in
     one_less xs n end c.loop-end.invariant (λ close.
     false≢true (sym c.if-are_close.false ∙ c.are_close.ensures.1 (subst (λ m. AreClose n (take m (drop (end - n) xs))) (sym (part_is end n c.loop-end.auto.end)) close)))
 
 pub returns : goal.returns
-returns c = no_run c.args.exponents.now c.args.count c.loop-end.end c.requires c.loop-end.invariant (search rules)
+returns c = no_run c.args.self.now.numbers.now c.args.count c.loop-end.end c.args.self.now.rise c.loop-end.invariant (search rules)
 
 pub returns-else-are_close : goal.returns-else-are_close
 returns-else-are_close c =
-    let xs = c.args.exponents.now in
+    let xs = c.args.self.now.numbers.now in
     let n = c.args.count in
     let end = c.loop-end.end in
     let last : length xs ≤ end = search rules in
-    no_run xs n (end + 1) c.requires (one_less xs n end c.loop-end.invariant (λ close.
+    no_run xs n (end + 1) c.args.self.now.rise (one_less xs n end c.loop-end.invariant (λ close.
     false≢true (sym c.if-are_close.false ∙ c.are_close.ensures.1 (subst (λ m. AreClose n (take m (drop (end - n) xs))) (sym (part_is end n c.loop-end.auto.end)) close))))
     (omega (arith, last))
 
-pub are_close-requires : goal.are_close-requires
-are_close-requires c =
-    let xs = c.args.exponents.now in
+pub invariant_of-part : goal.invariant_of-part
+invariant_of-part c =
+    let xs = c.args.self.now.numbers.now in
     let n = c.args.count in
     let end = c.loop-end.end in
     let within : n ≤ end = c.loop-end.auto.end in
-    subst (λ m. IsStrictlyIncreasing (take m (drop (end - n) xs))) (sym (part_is end n within)) (part_rises xs (end - n) n c.requires (omega (arith, within, c.loop-end-test.true)))
+    record { rise = subst (λ m. IsStrictlyIncreasing (take m (drop (end - n) xs))) (sym (part_is end n within)) (part_rises xs (end - n) n c.args.self.now.rise (omega (arith, within, c.loop-end-test.true))) }

@@ -1,9 +1,0 @@
-use Rattle.par2_solve.proofs.Common.{rules, length}
-use Rattle.par2_solve.proofs.Runs.{close-iff, rises_to_the_end, not_empty}
-use Rattle.par2_solve.proofs.exponents.are_close.Goals as goal
-
-pub overflow_sub-span-2 : goal.overflow_sub-span-2
-overflow_sub-span-2 c = rises_to_the_end c.args.exponents.now c.requires (not_empty (length c.args.exponents.now) (search rules))
-
-pub returns : goal.returns
-returns c = close-iff c.args.exponents.now c.args.count c.requires (not_empty (length c.args.exponents.now) (search rules))
