@@ -1,18 +1,18 @@
 -- Names from elsewhere that the proofs of this crate use.
 
-pub use Rattle.std.proofs.Common.{Bool, List, None, Option, Result, Some, [], ap, arith, codes, false, lt-ltb, ltb-true, map, nat_lt, refl, rules, string_bytes, subst, sym, take, true, true≢false, ℕ, ◌&&◌, ◌++◌, ◌^◌, ◌∙◌, ◌∷◌, ◌≡◌}
+pub use Rattle.std.proofs.Common.{Bool, List, None, Option, Result, Some, [], ap, arith, codes, false, lt-ltb, ltb-true, map, nat_lt, refl, rules, string_bytes, subst, sym, take, true, true≢false, ℕ, ◌∙◌, ◌∷◌, ◌≡◌}
 pub use Rattle.std.proofs.lemmas.List.{map_more, take_all}
+pub use Rattle.std.proofs.lemmas.List.Sums.{fold-append}
 pub use Rattle.std.proofs.lemmas.Result.{IfErr-weaker, IfOk-at_ok, IfOk-weaker, err_from_is_err_and}
 pub use Rattle.std.specs.Borrow.{Bor}
 pub use Rattle.std.specs.List.{list_all}
-pub use Rattle.std.specs.Prelude.{Box, MatchOption, find, is_some, option_and_then, option_map, unwrap_or}
+pub use Rattle.std.specs.Prelude.{Box, MatchOption, find, fold, is_some, option_and_then, option_map, unwrap_or}
 pub use Rattle.std.specs.Str.{bytes_eq}
 pub use Rattle.std.specs.Str.Parse.{AllDigits, ExplainsUnsignedError, HasUnsignedDigitsIfOk, ParsesUnsigned}
 unfoldable pub use Rattle.clap.proofs.OnLiterals.{clap_on_literals}
 pub use Rattle.clap.specs.Simple.{app_of_fields, argument_words, entered, label_of, names_of, rows_at}
-pub use Rattle.clap.specs.Words.{AddsArg, AddsSubcommand, App, HasMatchesOf, ReadsOne, Row, Rule, Shape, Text, app_of, built, fault_of, first_value, found_of, is_simple, is_simple_and_free, matched_of, one_text, raw_values, rows_of, subcommand_name_of, subcommand_of, subcommand_rows, subcommand_rows_of, takes, with_rule, with_subcommand}
+pub use Rattle.clap.specs.Words.{AddsArg, AddsSubcommand, App, HasMatchesOf, ReadsOne, Row, Rule, Shape, Text, app_of, built, fault_of, first_value, found_of, is_simple, is_simple_and_free, matched_of, new_app, one_text, raw_values, rows_of, subcommand_name_of, subcommand_of, subcommand_rows, subcommand_rows_of, takes, with_rule, with_subcommand}
 pub use Rattle.clap.specs.declared.builder.command.Command.{Command}
-pub use Rattle.par2_spec.specs.Commands.{Create, Do, Repair, Undo}
-pub use Rattle.par2_arguments.specs.Definition.{IsApp, IsArg, app_with, plain_app, rule_for, shape_for}
-unfoldable pub use Rattle.par2_arguments.specs.Definition.{create_app, par2_app, purge_app, repair_app, start_app, verify_app}
-pub use Rattle.par2_arguments.specs.Meanings.{requested_by, flag_of, meaning, number, number_of, value_of, values_of}
+pub use Rattle.par2_arguments.specs.Definition.{IsApp, IsArg, rule_for, shape_for}
+unfoldable pub use Rattle.par2_arguments.specs.Definition.{par2_app, start_app}
+pub use Rattle.par2_arguments.specs.Meanings.{flag_of, meaning, number, number_of, value_of, values_of}

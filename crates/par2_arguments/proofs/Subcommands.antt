@@ -1,5 +1,5 @@
 -- The subcommand that a parse found is one of the six.
-use Rattle.par2_arguments.proofs.Common.{arith, ◌≡◌, ◌∙◌, Bool, true, true≢false, refl, ap, sym, subst, List, [], Option, Some, None, is_some, option_map, unwrap_or, Box, find, list_all, App, HasMatchesOf, Row, Shape, Text, app_of, built, fault_of, is_simple, is_simple_and_free, subcommand_name_of, subcommand_of, subcommand_rows, subcommand_rows_of, argument_words, entered, label_of, names_of, rows_at, Command, meaning, clap_on_literals, create_app, par2_app, purge_app, repair_app, start_app, verify_app}
+use Rattle.par2_arguments.proofs.Common.{arith, ◌≡◌, ◌∙◌, Bool, true, true≢false, refl, ap, sym, subst, List, [], Option, Some, None, is_some, option_map, unwrap_or, Box, find, list_all, App, HasMatchesOf, Row, Shape, Text, app_of, built, fault_of, is_simple, is_simple_and_free, subcommand_name_of, subcommand_of, subcommand_rows, subcommand_rows_of, argument_words, entered, label_of, names_of, rows_at, Command, meaning, clap_on_literals, par2_app, start_app}
 use Rattle.std.specs.Box.{box_value}
 use Rattle.std.proofs.lemmas.Option.{none-some}
 use Rattle.std.proofs.lemmas.List.Elements.{recursion_from_All}
@@ -11,18 +11,18 @@ use Rattle.clap.specs.declared.parser.matches.ArgMatches.TheViews.{out-ArgMatche
 use Rattle.par2_spec.proofs.ListsLaws.{found_one}
 
 simple : is_simple par2_app ≡ true
-unfolding clap_on_literals create_app par2_app purge_app repair_app start_app verify_app
+unfolding clap_on_literals par2_app start_app
 simple = refl
 
 free : is_simple_and_free par2_app ≡ true
-unfolding clap_on_literals create_app par2_app purge_app repair_app start_app verify_app
+unfolding clap_on_literals par2_app start_app
 free = refl
 
 abbrev is_known : Shape → Bool
 is_known s = is_some (meaning (s.name, []))
 
 all_known : list_all is_known (built par2_app).subs ≡ true
-unfolding clap_on_literals create_app par2_app purge_app repair_app start_app verify_app
+unfolding clap_on_literals par2_app start_app
 all_known = refl
 
 find_all : {X : Type 0} (p q : X → Bool) (xs : List X) (x : X) → find p xs ≡ Some x → list_all q xs ≡ true → q x ≡ true

@@ -3,7 +3,7 @@
 --   | undo | redo
 -- An option is given once at most, also between the names, and `--` ends the options. There is no `help` command.
 -- `--help` and `-h` end the parse with a fault, as every simple clap command does.
-use Rattle.std.specs.Prelude.{◌≡◌, ℕ, List, [], ◌∷◌, IfOk, Result, Some, codes, false, map, pos, true}
+use Rattle.std.specs.Prelude.{◌≡◌, ℕ, List, [], ◌∷◌, IfOk, Result, Some, codes, false, fold, map, pos, true}
 use Rattle.std.specs.Borrow.{Bor}
 use Rattle.clap.specs.Words.{App, Rule, Shape, Text, app_of, new_app, new_rule, rule_of, with_rule, with_subcommand}
 use Rattle.clap.specs.declared.builder.arg.Arg.{Arg}
@@ -19,71 +19,24 @@ use Rattle.par2_arguments.specs.declared.definition.Argument.TheVariants.{Base, 
 abbrev pub number_rule : Text → ℕ → ValueParser → Rule
 number_rule id short parser = record (new_rule id) { short = Some short; action = Some Set; parser = Some parser }
 
--- `-sN`, a whole number of 64 bits that has to be given
-abbrev pub slice_rule : Rule
-slice_rule = record (number_rule (codes "slice") 115 (vp.Unsigned 0 18446744073709551615)) { required = true }
-
--- `-cN`, a whole number of 32 bits that has to be given
-abbrev pub count_rule : Rule
-count_rule = record (number_rule (codes "count") 99 (vp.Signed (pos 0) (pos 4294967295))) { required = true }
-
--- `-fN`, a whole number of 32 bits, 0 if it isn't given
-abbrev pub first_rule : Rule
-first_rule = record (number_rule (codes "first") 102 (vp.Signed (pos 0) (pos 4294967295))) { defaults = codes "0" ∷ [] }
-
--- `--overwrite`
-abbrev pub overwrite_rule : Rule
-overwrite_rule = record (new_rule (codes "overwrite")) {
-  long = Some (codes "overwrite");
-  action = Some SetTrue;
-}
-
--- `-p`
-abbrev pub purge_rule : Rule
-purge_rule = record (new_rule (codes "purge")) { short = Some 112; action = Some SetTrue }
-
--- the first name, which has to be given
-abbrev pub base_rule : Rule
-base_rule = record (new_rule (codes "base")) { action = Some Set; required = true }
-
--- the names after it
-abbrev pub files_rule : Rule
-files_rule = record (new_rule (codes "files")) { action = Some Append }
-
--- the rule of an argument in the table
+-- an argument: `-sN`, of 64 bits, and `-cN`, of 32 bits, which have to be given; `-fN`, of 32 bits, 0 if it isn't given;
+-- `--overwrite`; `-p`; the first name, which has to be given; and the names after it
 abbrev pub rule_for : Argument → Rule
-rule_for Slice = slice_rule
-rule_for Count = count_rule
-rule_for First = first_rule
-rule_for Overwrite = overwrite_rule
-rule_for Purge = purge_rule
-rule_for Base = base_rule
-rule_for Files = files_rule
+rule_for Slice = record (number_rule (codes "slice") 115 (vp.Unsigned 0 18446744073709551615)) { required = true }
+rule_for Count = record (number_rule (codes "count") 99 (vp.Signed (pos 0) (pos 4294967295))) { required = true }
+rule_for First = record (number_rule (codes "first") 102 (vp.Signed (pos 0) (pos 4294967295))) { defaults = codes "0" ∷ [] }
+rule_for Overwrite = record (new_rule (codes "overwrite")) { long = Some (codes "overwrite"); action = Some SetTrue }
+rule_for Purge = record (new_rule (codes "purge")) { short = Some 112; action = Some SetTrue }
+rule_for Base = record (new_rule (codes "base")) { action = Some Set; required = true }
+rule_for Files = record (new_rule (codes "files")) { action = Some Append }
 
--- a command with only these arguments
-abbrev pub plain_app : Text → List Rule → App
-plain_app name rules = record (new_app name) { top = record (new_app name).top { rules = rules } }
+-- a subcommand with these arguments
+abbrev pub shape_of : Text → List Argument → Shape
+shape_of name arguments = (fold with_rule (new_app name) (map rule_for arguments)).top
 
--- the definition of a subcommand in the table
+-- the same of a row of the table
 abbrev pub shape_for : Bor Text × Bor (List Argument) → Shape
-shape_for row = (plain_app row.0.now (map rule_for row.1.now)).top
-
--- `create -sN -cN [-fN] [--overwrite] BASE FILE..`
-unfoldable pub create_app : App
-create_app = with_rule (with_rule (with_rule (with_rule (with_rule (with_rule (new_app (codes "create"))
-    slice_rule) count_rule) first_rule) overwrite_rule) base_rule) files_rule
-
--- `verify BASE [FILE..]`
-unfoldable pub verify_app : App
-verify_app = with_rule (with_rule (new_app (codes "verify")) base_rule) files_rule
-
--- `repair [-p] BASE [FILE..]`
-unfoldable pub repair_app : App
-repair_app = with_rule (with_rule (with_rule (new_app (codes "repair")) purge_rule) base_rule) files_rule
-
--- `purge BASE`
-unfoldable pub purge_app : App
-purge_app = with_rule (new_app (codes "purge")) base_rule
+shape_for row = shape_of row.0.now row.1.now
 
 -- the command line without its subcommands
 unfoldable pub start_app : App
@@ -91,15 +44,16 @@ start_app = record (new_app (codes "par2")) {
   top = record (new_app (codes "par2")).top { no_binary_name = true; disable_help_subcommand = true };
 }
 
--- the command line with these subcommands
-abbrev pub app_with : List Shape → App
-app_with [] = start_app
-app_with (shape ∷ shapes) = record { top = record start_app.top { is_leaf = false }; subs = shape ∷ shapes }
-
 -- the whole command line
 unfoldable pub par2_app : App
-par2_app = with_subcommand (with_subcommand (with_subcommand (with_subcommand (with_subcommand (with_subcommand start_app
-    create_app.top) verify_app.top) repair_app.top) purge_app.top) (new_app (codes "undo")).top) (new_app (codes "redo")).top
+par2_app = fold with_subcommand start_app (
+    shape_of (codes "create") (Slice ∷ Count ∷ First ∷ Overwrite ∷ Base ∷ Files ∷ [])
+    ∷ shape_of (codes "verify") (Base ∷ Files ∷ [])
+    ∷ shape_of (codes "repair") (Purge ∷ Base ∷ Files ∷ [])
+    ∷ shape_of (codes "purge") (Base ∷ [])
+    ∷ shape_of (codes "undo") []
+    ∷ shape_of (codes "redo") []
+    ∷ [])
 
 -- a command that the code built has this definition, and no global argument
 abbrev pub IsApp : Command → App → Type 0

@@ -30,35 +30,22 @@ values_of id rows = unwrap_or (all_of id rows) []
 abbrev pub flag_of : Text → List Row → Bool
 flag_of id rows = option_map_or (λ bytes. bytes_eq bytes (codes "true")) (first_of id rows) false
 
--- the action of `create`
-abbrev pub create_meaning : List Row → Action
-create_meaning rows = Do (Create (record {
-  base = value_of (codes "base") rows;
-  slice = number_of 64 (codes "slice") rows;
-  count = number_of 32 (codes "count") rows;
-  first = number_of 32 (codes "first") rows;
-  overwrite = flag_of (codes "overwrite") rows;
-  inputs = values_of (codes "files") rows;
-}))
-
--- the action of `verify`
-abbrev pub verify_meaning : List Row → Action
-verify_meaning rows = Do (Verify (value_of (codes "base") rows) (values_of (codes "files") rows))
-
--- the action of `repair`
-abbrev pub repair_meaning : List Row → Action
-repair_meaning rows = Do (Repair (value_of (codes "base") rows) (values_of (codes "files") rows) (flag_of (codes "purge") rows))
-
--- the action of `purge`
-abbrev pub purge_meaning : List Row → Action
-purge_meaning rows = Do (Purge (value_of (codes "base") rows))
-
 -- the action of a subcommand's name and its matches
 abbrev pub meaning : Text × List Row → Option Action
-meaning p = if bytes_eq p.0 (codes "create") then Some (create_meaning p.1)
-    else (if bytes_eq p.0 (codes "verify") then Some (verify_meaning p.1)
-    else (if bytes_eq p.0 (codes "repair") then Some (repair_meaning p.1)
-    else (if bytes_eq p.0 (codes "purge") then Some (purge_meaning p.1)
+meaning p =
+    let base = value_of (codes "base") p.1 in
+    let files = values_of (codes "files") p.1 in
+    if bytes_eq p.0 (codes "create") then Some (Do (Create (record {
+      base = base;
+      slice = number_of 64 (codes "slice") p.1;
+      count = number_of 32 (codes "count") p.1;
+      first = number_of 32 (codes "first") p.1;
+      overwrite = flag_of (codes "overwrite") p.1;
+      inputs = files;
+    })))
+    else (if bytes_eq p.0 (codes "verify") then Some (Do (Verify base files))
+    else (if bytes_eq p.0 (codes "repair") then Some (Do (Repair base files (flag_of (codes "purge") p.1)))
+    else (if bytes_eq p.0 (codes "purge") then Some (Do (Purge base))
     else (if bytes_eq p.0 (codes "undo") then Some Undo
     else (if bytes_eq p.0 (codes "redo") then Some Redo else None)))))
 

@@ -1,5 +1,5 @@
 -- The result of reading words.
-use Rattle.std.specs.Prelude.{◌≡◌, Result, IfErr, IfOk}
+use Rattle.std.specs.Prelude.{◌≡◌, ◌⊎◌, None, Option, Result, IfErr, IfOk, Some}
 use Rattle.par2_spec.specs.Commands.{Action}
 use Rattle.par2_spec.specs.Views.{command_of}
 use Rattle.par2_spec.specs.declared.commands.Command.{Command}
@@ -14,6 +14,7 @@ abbrev pub unread_as : WordsFault → Failure
 unread_as unread.Arguments = failure.Arguments
 unread_as unread.Memory = failure.Refused Memory
 
--- the command that was read means this action; it isn't read only if memory ran out
-abbrev pub IsMeant : Result Command WordsFault → Action → Type 0
-IsMeant result action = IfOk result (λ command. command_of command ≡ action) × IfErr result (λ fault. fault ≡ unread.Memory)
+-- the command that was read means this action; it isn't read only if memory ran out, or if there is none
+abbrev pub IsMeant : Result Command WordsFault → Option Action → Type 0
+IsMeant result action =
+    IfOk result (λ command. action ≡ Some (command_of command)) × IfErr result (λ fault. fault ≡ unread.Memory ⊎ action ≡ None)

@@ -1,8 +1,8 @@
 //! The definition of the command line for clap. `par2_command` builds it from the table `SUBCOMMANDS`: `command_line`
 //! adds to `start_command` one `command_of` per row, which has one `arg_of` per argument. `read_words` parses with it.
-ghost use Rattle.std.specs.Prelude.{map};
-ghost use Rattle.clap.specs.Words.{App, with_subcommand};
-ghost use Rattle.par2_arguments.specs.Definition.{Defines, IsApp, IsArg, app_with, number_rule, par2_app, plain_app, rule_for, shape_for, start_app};
+ghost use Rattle.std.specs.Prelude.{fold, map};
+ghost use Rattle.clap.specs.Words.{App, new_app, with_rule, with_subcommand};
+ghost use Rattle.par2_arguments.specs.Definition.{Defines, IsApp, IsArg, number_rule, par2_app, rule_for, shape_for, start_app};
 
 use Argument::*;
 use clap::builder::ValueParser;
@@ -64,7 +64,8 @@ fn arg_of<'a>(alloc: Global, argument: &Argument) -> Arg<'a>
 
 // The definition of a subcommand with these arguments: one row of the table. Err if memory runs out.
 fn command_of<'a>(alloc: Global, name: &'a str, arguments: &[Argument]) -> Result<Command<'a>>
-    ensures { Defines result (plain_app name.entry.now (map rule_for arguments.now)) }
+    ensures { let rules = map rule_for arguments.now in
+        Defines result (fold with_rule (new_app name.entry.now) rules) }
 {
     let mut command = Command::new(alloc, name);
     for argument in arguments {
@@ -97,7 +98,7 @@ fn start_command<'a>(alloc: Global) -> Command<'a>
 
 // The command line with these subcommands, given as rows of name and arguments. Err if memory runs out.
 fn command_line<'a>(alloc: Global, subcommands: &[(&'a str, &[Argument])]) -> Result<Command<'a>>
-    ensures { Defines result (app_with (map shape_for subcommands.now)) }
+    ensures { Defines result (fold with_subcommand start_app (map shape_for subcommands.now)) }
 {
     let mut command = start_command(alloc);
     for (name, arguments) in subcommands {

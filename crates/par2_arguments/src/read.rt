@@ -1,12 +1,11 @@
-//! The command that words request. `read_words` lets clap match them, and `named` reads the matches of the subcommand
-//! by `create_of`, `verify_of`, `repair_of` or `purge_of`. Contracts see matches as rows (`rows_of`): each is the
-//! values of one argument.
-ghost use Rattle.std.specs.Prelude.{◌≡◌, ◌⊎◌, [], IfOk, IfErr, Some, None, true, codes, map, is_some, string_bytes, unwrap_or};
+//! The command that words request. `read_words` lets clap match them, and `named` reads the matches of the subcommand.
+//! Contracts see matches as rows (`rows_of`): each is the values of one argument.
+ghost use Rattle.std.specs.Prelude.{◌≡◌, [], IfOk, IfErr, Some, true, codes, map, is_some, string_bytes, unwrap_or};
 ghost use Rattle.clap.specs.Words.{fault_of, found_of, rows_of, kind_of, subcommand_of, takes};
 ghost use Rattle.par2_spec.specs.Views.{command_of};
 ghost use Rattle.par2_arguments.specs.Definition.{par2_app};
 ghost use Rattle.par2_arguments.specs.ReadWords.{IsMeant};
-ghost use Rattle.par2_arguments.specs.Meanings.{requested_by, meaning, number_of, value_of, values_of, flag_of, create_meaning, verify_meaning, repair_meaning, purge_meaning};
+ghost use Rattle.par2_arguments.specs.Meanings.{requested_by, meaning, number_of, value_of, values_of, flag_of};
 
 use crate::definition::par2_command;
 use clap::ArgMatches;
@@ -94,64 +93,32 @@ fn count_of(matches: &ArgMatches<'_>, id: &str) -> u32
     matches.get_one::<u32>(id).unwrap_or(0)
 }
 
-// The create that the matches of its subcommand request. `IsMeant`: exactly that, or Memory.
-fn create_of(alloc: Global, matches: &ArgMatches<'_>) -> Result<Command, WordsFault>
-    ensures { IsMeant result (create_meaning (rows_of (found_of matches.now))) }
-{
-    Ok(Command::Act(Action::Create(CreateArgs {
-        slice: slice_size_of(matches),
-        count: count_of(matches, "count"),
-        first: count_of(matches, "first"),
-        base: base_of(alloc, matches)?,
-        inputs: files_of(alloc, matches)?,
-        overwrite: has_flag(matches, "overwrite"),
-    })))
-}
-
-// The verify that the matches of its subcommand request. `IsMeant`: exactly that, or Memory.
-fn verify_of(alloc: Global, matches: &ArgMatches<'_>) -> Result<Command, WordsFault>
-    ensures { IsMeant result (verify_meaning (rows_of (found_of matches.now))) }
-{
-    Ok(Command::Verify {
-        base: base_of(alloc, matches)?,
-        extras: files_of(alloc, matches)?,
-    })
-}
-
-// The repair that the matches of its subcommand request. `IsMeant`: as an action of the definitions it is exactly that
-// one, or memory ran out.
-fn repair_of(alloc: Global, matches: &ArgMatches<'_>) -> Result<Command, WordsFault>
-    ensures { IsMeant result (repair_meaning (rows_of (found_of matches.now))) }
-{
-    Ok(Command::Act(Action::Repair {
-        base: base_of(alloc, matches)?,
-        extras: files_of(alloc, matches)?,
-        purge: has_flag(matches, "purge"),
-    }))
-}
-
-// The purge that the matches of its subcommand request. `IsMeant`: exactly that, or Memory.
-fn purge_of(alloc: Global, matches: &ArgMatches<'_>) -> Result<Command, WordsFault>
-    ensures { IsMeant result (purge_meaning (rows_of (found_of matches.now))) }
-{
-    Ok(Command::Act(Action::Purge {
-        base: base_of(alloc, matches)?,
-    }))
-}
-
-// The command of the subcommand with this name and these matches. clap accepts only the six names, so Arguments isn't
-// returned in a run.
+// The command of the subcommand with this name and these matches. `IsMeant`: exactly that, or Memory, or Arguments for
+// another name, which clap doesn't accept.
 fn named(alloc: Global, name: &str, matches: &ArgMatches<'_>) -> Result<Command, WordsFault>
-    ensures command { IfOk result (λ c. meaning (name.now, rows_of (found_of matches.now))
-        ≡ Some (command_of c)) }
-    ensures fault { IfErr result (λ e. e ≡ WordsFault.Memory
-        ⊎ meaning (name.now, rows_of (found_of matches.now)) ≡ None) }
+    ensures { IsMeant result (meaning (name.now, rows_of (found_of matches.now))) }
 {
     match name {
-        "create" => create_of(alloc, matches),
-        "verify" => verify_of(alloc, matches),
-        "repair" => repair_of(alloc, matches),
-        "purge" => purge_of(alloc, matches),
+        "create" => Ok(Command::Act(Action::Create(CreateArgs {
+            slice: slice_size_of(matches),
+            count: count_of(matches, "count"),
+            first: count_of(matches, "first"),
+            base: base_of(alloc, matches)?,
+            inputs: files_of(alloc, matches)?,
+            overwrite: has_flag(matches, "overwrite"),
+        }))),
+        "verify" => Ok(Command::Verify {
+            base: base_of(alloc, matches)?,
+            extras: files_of(alloc, matches)?,
+        }),
+        "repair" => Ok(Command::Act(Action::Repair {
+            base: base_of(alloc, matches)?,
+            extras: files_of(alloc, matches)?,
+            purge: has_flag(matches, "purge"),
+        })),
+        "purge" => Ok(Command::Act(Action::Purge {
+            base: base_of(alloc, matches)?,
+        })),
         "undo" => Ok(Command::Act(Action::Undo)),
         "redo" => Ok(Command::Act(Action::Redo)),
         _ => Err(WordsFault::Arguments),

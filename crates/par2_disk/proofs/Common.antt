@@ -1,11 +1,10 @@
 -- The names that proofs of this crate take from elsewhere.
 
-pub use Rattle.std.proofs.Common.{IfErr, List, OnErr, OnOk, Result, Some, [], ap, arith, drop, get_or, length, nat_lt, refl, subst, sym, take, vec_len, ℕ, ◌++◌, ◌+◌, ◌<◌, ◌∙◌, ◌∷◌, ◌≡◌, ◌≤◌}
+pub use Rattle.std.proofs.Common.{IfErr, List, OnErr, OnOk, Result, Some, [], ap, arith, drop, get_or, inl, inr, length, nat_lt, refl, subst, suc, sym, take, vec_len, zero, ℕ, ◌++◌, ◌+◌, ◌<◌, ◌∙◌, ◌∷◌, ◌≡◌, ◌≤◌, ◌⊎◌}
 pub use Rattle.std.proofs.raw_atomic.Walks.{proved}
 pub use Rattle.std.specs.FinMap.{entries}
 pub use Rattle.std.specs.Int.Bits.{bit_and}
-pub use Rattle.par2_disk.specs.Filling.{IsWrittenAs}
 pub use Rattle.par2_disk.specs.Stores.{OnlyReads}
 pub use Rattle.par2_spec.specs.Changes.{FolderState, Write, state_after}
-unfoldable pub use Rattle.par2_spec.specs.Changes.{change_refusal, effect, is_applicable}
+unfoldable pub use Rattle.par2_spec.specs.Changes.{change_refusal, effect}
 pub use Rattle.par2_spec.specs.Folders.{names}

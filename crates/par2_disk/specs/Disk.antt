@@ -1,229 +1,145 @@
 -- A store over a directory: the counts of its failures, of calls that can't be done, and of writing calls, and what
--- each call does.
-use Rattle.std.specs.Prelude.{◌≡◌, ◌⊎◌, ◌<◌, ◌≤◌, ◌||◌, ℕ, Bool, List, None, Ok, Option, Some, Vec, Result, IfErr, IfOk, IfSome, IsErr, IsErrOf, IsFalse, IsSome, IsTrue, OnErr, OnOk, is_ok, option_map}
-use Rattle.std.specs.declared.alloc.Global.{Global}
+-- each call does. `state` gives the directory as contracts see it.
+use Rattle.std.specs.Prelude.{◌≡◌, ◌⊎◌, ◌<◌, ◌≤◌, ◌||◌, ℕ, Bool, List, None, Some, Result, IfErr, IfSome, IsErr, IsErrOf, IsFalse, IsSome, IsTrue, OnErr, OnOk, is_ok}
 use Rattle.par2_spec.specs.Changes.{Change, Write, Replace, Rename, Remove, is_applicable}
 use Rattle.par2_spec.specs.Folders.{has}
-use Rattle.par2_disk.specs.Cuts.{AreKept, NoMoreCrashStates}
-use Rattle.par2_disk.specs.Directories.{IsFree, NoMoreBarred, Stays, path_of, put_at}
+use Rattle.par2_spec.specs.Stores.{with_change}
+use Rattle.par2_disk.specs.Cuts.{AreKept, NoMore}
+use Rattle.par2_disk.specs.Directories.{CanMake, DirectoryState, IsFree, Stays, path_of, put_at}
 use Rattle.par2_disk.specs.Stores.{Writes}
 use Rattle.par2_disk.specs.declared.directory.Location.{Location}
 use Rattle.par2_disk.specs.declared.directory.Location.TheVariants as location
 use Rattle.par2_disk.specs.declared.disk.DiskStore.{DiskStore}
-use Rattle.par2_disk.specs.declared.stamp.Stamp.{Stamp}
 use Rattle.par2_disk.specs.declared.store.ReadFault.{ReadFault}
 use Rattle.par2_disk.specs.declared.store.ReadFault.TheVariants.{Store}
 use Rattle.par2_disk.specs.declared.store.StoreFault.{StoreFault}
-use Rattle.par2_disk.specs.declared.view.Disk.{Ghosts as DiskOf}
 use Rattle.par2_disk.specs.declared.view.Store.{Ghosts as StoreOf}
 
--- the directory of the store
-abbrev pub directory_of : {D : Type 0} → DiskStore D → D
-directory_of store = store.directory
-
--- the number of the store's failures
-abbrev pub disk_failures : {D : Type 0} → DiskStore D → ℕ
-disk_failures store = store.failures.count
-
--- the number of calls that can't be done
-abbrev pub disk_impossible : {D : Type 0} → DiskStore D → ℕ
-disk_impossible store = store.impossible.count
-
--- the journal's stamp when it was read, if it was read
-abbrev pub seen_of : {D : Type 0} → DiskStore D → Option (Option Stamp)
-seen_of store = store.seen
-
--- whether the directory is held alone and the journal, if it was read, was found unchanged then
-abbrev pub is_entered : {D : Type 0} → DiskStore D → Bool
-is_entered store = store.is_entered
-
--- the number of writing calls
-abbrev pub disk_writing_calls : {D : Type 0} → DiskStore D → ℕ
-disk_writing_calls store = store.writing_calls.count
-
 -- the ghost state of the store, from that of its directory
-abbrev pub over : {D : Type 0} → DiskOf D → StoreOf (DiskStore D)
-over disk = record {
-  honest = λ store. disk.honest (directory_of store);
-  contents = λ store. disk.contents (directory_of store);
-  crash_states = λ store. disk.crash_states (directory_of store);
-  failures = disk_failures;
-  impossible = disk_impossible;
-  writing_calls = disk_writing_calls;
+abbrev pub over : {D : Type 0} → (D → DirectoryState) → StoreOf (DiskStore D)
+over state = record {
+  honest = λ store. (state store.directory).honest;
+  contents = λ store. (state store.directory).contents;
+  crash_states = λ store. (state store.directory).crash_states;
+  failures = λ store. store.failures.count;
+  impossible = λ store. store.impossible.count;
+  writing_calls = λ store. store.writing_calls.count;
 }
 
--- a directory has failed: it may fail to be read, or its count of failures rose
-abbrev pub HasFailed : (ReadFault → Type 0) → ℕ → ℕ → Type 0
-HasFailed may_fail before after = may_fail Store ⊎ (before < after)
-
--- ---- what is counted
-
--- neither a failure nor a writing call is counted
-pub record CountsNoFailure {D : Type 0} (old new : DiskStore D) : Type 0 where
-  pub failures : disk_failures new ≡ disk_failures old
-  pub writing_calls : disk_writing_calls new ≡ disk_writing_calls old
+-- a store before its first call
+pub record IsNew {D : Type 0} (store : DiskStore D) : Type 0 where
+  pub failures : store.failures.count ≡ 0
+  pub impossible : store.impossible.count ≡ 0
+  pub writing_calls : store.writing_calls.count ≡ 0
+  pub unentered : IsFalse store.is_entered
 
 -- the store remembers the same stamp of the journal, and whether it has compared it
 pub record HasSeenAsMuch {D : Type 0} (old new : DiskStore D) : Type 0 where
-  pub seen : seen_of new ≡ seen_of old
-  pub entered : is_entered new ≡ is_entered old
+  pub seen : new.seen ≡ old.seen
+  pub entered : new.is_entered ≡ old.is_entered
 
--- a call that changes nothing but the count of calls that can't be done: neither the directory nor what the store
--- remembers
-pub record OnlyLooks {D : Type 0} (old new : DiskStore D) : Type 0 where
-  pub directory : directory_of new ≡ directory_of old
-  pub journal : HasSeenAsMuch old new
-  pub failures : disk_failures new ≡ disk_failures old
-  pub writing_calls : disk_writing_calls new ≡ disk_writing_calls old
+-- `find_file`: the named file is found. If there is none, the call can't be done, which is counted; nothing else changes
+pub record FindsFile {D T : Type 0} (state : D → DirectoryState) (old new : DiskStore D) (name : List ℕ) (result : Result T StoreFault) : Type 0 where
+  pub file : (state old.directory).honest → OnOk result (IsTrue (has (state old.directory).contents.files name) × ((state old.directory).barred name → ⊥))
+  pub reason : (state old.directory).honest → IsTrue (has (state old.directory).contents.files name) → OnErr result ((state old.directory).may_fail Store)
+  pub possible : (state old.directory).honest → IsTrue (has (state old.directory).contents.files name) → new.impossible.count ≡ old.impossible.count
+  pub grows : old.impossible.count ≤ new.impossible.count
+  pub rest : new ≡ record old { impossible = new.impossible }
 
--- ---- looking
-
--- the journal's bytes and stamp, if there is a journal. Anything that isn't a file can't be read
-pub record FindsJournal {D : Type 0} (disk : DiskOf D) (old new : D) (result : Result (Option (Vec ℕ Global × Stamp)) ReadFault) : Type 0 where
-  pub stays : Stays disk old new
-  pub bytes : disk.honest old → IfOk result (λ found. option_map (λ (read : Vec ℕ Global × Stamp). read.0.items) found ≡ (disk.contents old).journal)
-  pub stamp : disk.honest old → IfOk result (λ found. option_map (λ (read : Vec ℕ Global × Stamp). read.1) found ≡ disk.stamp old)
-  pub barred : disk.honest old → disk.barred old (path_of location.Journal) → IsErrOf result Store
-  pub absent : disk.honest old → (disk.contents old).journal ≡ None → (result ≡ Ok None) ⊎ IsErrOf result Store
-  pub reason : disk.honest old → IsFree disk old location.Journal → IfErr result (disk.may_fail old)
-  pub unfailed : disk.failures new ≡ disk.failures old
-
--- `find_file`: the named file is found. If there is none, the call can't be done, which is counted
-pub record FindsFile {D T : Type 0} (disk : DiskOf D) (old new : DiskStore D) (name : List ℕ) (result : Result T StoreFault) : Type 0 where
-  pub file : disk.honest (directory_of old) → OnOk result (IsTrue (has (disk.contents (directory_of old)).files name))
-  pub free : disk.honest (directory_of old) → OnOk result (disk.barred (directory_of old) name → ⊥)
-  pub reason : disk.honest (directory_of old) → IsTrue (has (disk.contents (directory_of old)).files name) → OnErr result (disk.may_fail (directory_of old) Store)
-  pub possible : disk.honest (directory_of old) → IsTrue (has (disk.contents (directory_of old)).files name) → disk_impossible new ≡ disk_impossible old
-  pub grows : disk_impossible old ≤ disk_impossible new
-
--- `find_nothing`: nothing has the name. If a file has it, the call can't be done, which is counted
-pub record FindsNothing {D : Type 0} (disk : DiskOf D) (old new : DiskStore D) (name : List ℕ) (result : Result (Unit {0}) StoreFault) : Type 0 where
-  pub nothing : disk.honest (directory_of old) → OnOk result (IsFalse (has (disk.contents (directory_of old)).files name) × (disk.barred (directory_of old) name → ⊥))
-  pub reason : disk.honest (directory_of old) → IsFalse (has (disk.contents (directory_of old)).files name) → (disk.barred (directory_of old) name → ⊥) → OnErr result (disk.may_fail (directory_of old) Store)
-  pub possible : disk.honest (directory_of old) → IsFalse (has (disk.contents (directory_of old)).files name) → disk_impossible new ≡ disk_impossible old
-  pub grows : disk_impossible old ≤ disk_impossible new
+-- `find_nothing`: nothing has the name. If a file has it, the call can't be done, which is counted; nothing else changes
+pub record FindsNothing {D T : Type 0} (state : D → DirectoryState) (old new : DiskStore D) (name : List ℕ) (result : Result T StoreFault) : Type 0 where
+  pub nothing : (state old.directory).honest → OnOk result (IsFalse (has (state old.directory).contents.files name) × ((state old.directory).barred name → ⊥))
+  pub reason : (state old.directory).honest → IsFalse (has (state old.directory).contents.files name) → ((state old.directory).barred name → ⊥) → OnErr result ((state old.directory).may_fail Store)
+  pub possible : (state old.directory).honest → IsFalse (has (state old.directory).contents.files name) → new.impossible.count ≡ old.impossible.count
+  pub grows : old.impossible.count ≤ new.impossible.count
+  pub rest : new ≡ record old { impossible = new.impossible }
 
 -- whether a file can be written there: nothing other than a file is at the location
-pub record ReportsFree {D : Type 0} (disk : DiskOf D) (it : D) (at : Location) (answer : Bool) : Type 0 where
-  pub free : disk.honest it → IsTrue answer → IsFree disk it at
-  pub reason : disk.honest it → IsFree disk it at → IsFalse answer → disk.may_fail it Store
-
--- ---- reasons
+pub record ReportsFree (it : DirectoryState) (at : Location) (answer : Bool) : Type 0 where
+  pub free : it.honest → IsTrue answer → IsFree it at
+  pub reason : it.honest → IsFree it at → IsFalse answer → it.may_fail Store
 
 -- why a reading call fails: the directory may fail so, or it can't be held, which counts as a failure
-abbrev pub HasFailedToRead : {D : Type 0} → DiskOf D → D → D → ReadFault → Type 0
-HasFailedToRead disk old new fault = disk.may_fail old fault ⊎ ((fault ≡ Store) × (disk.failures old < disk.failures new))
-
--- if the call can be done, a reading call fails only because of the directory
-abbrev pub FailsToRead : {D T : Type 0} → DiskOf D → D → D → Type 0 → Result T ReadFault → Type 0
-FailsToRead disk old new Can result = disk.honest old → Can → IfErr result (HasFailedToRead disk old new)
+abbrev pub FailsToRead : {D T : Type 0} → (D → DirectoryState) → DiskStore D → DiskStore D → Result T ReadFault → Type 0
+FailsToRead state old new result = IfErr result (λ fault. (state old.directory).may_fail fault
+    ⊎ ((fault ≡ Store) × ((state old.directory).failures < (state new.directory).failures)))
 
 -- why reading a file fails: if a file has the name, only because of the directory
-abbrev pub FailsToReadFile : {D T : Type 0} → DiskOf D → D → D → List ℕ → Result T ReadFault → Type 0
-FailsToReadFile disk old new name result = FailsToRead disk old new (IsTrue (has (disk.contents old).files name)) result
-
--- why reading the journal fails: if nothing other than a file is at its path, only because of the directory
-abbrev pub FailsToReadJournal : {D T : Type 0} → DiskOf D → D → D → Result T ReadFault → Type 0
-FailsToReadJournal disk old new result = FailsToRead disk old new (IsFree disk old location.Journal) result
+abbrev pub FailsToReadFile : {D T : Type 0} → (D → DirectoryState) → DiskStore D → DiskStore D → List ℕ → Result T ReadFault → Type 0
+FailsToReadFile state old new name result =
+    (state old.directory).honest → IsTrue (has (state old.directory).contents.files name) → FailsToRead state old new result
 
 -- if the call can be done, a writing call fails only because of the directory; a call that returns Ok counts no
 -- failure of the directory
-pub record Blames {D : Type 0} (disk : DiskOf D) (old new : D) (Can : Type 0) (result : Result (Unit {0}) StoreFault) : Type 0 where
-  pub reason : disk.honest old → Can → OnErr result (HasFailed (disk.may_fail old) (disk.failures old) (disk.failures new))
-  pub unfailed : OnOk result (disk.failures new ≡ disk.failures old)
-
--- nothing bars a change: neither its new name, nor the path of the temporary file
-abbrev pub IsClear : {D : Type 0} → DiskOf D → D → Change → Type 0
-IsClear disk it (Write name bytes) = (disk.barred it name → ⊥) × IsFree disk it location.Temporary
-IsClear disk it (Replace name bytes) = IsFree disk it location.Temporary
-IsClear disk it (Rename from to) = disk.barred it to → ⊥
-IsClear disk it (Remove name) = Unit {0}
+pub record Blames (old new : DirectoryState) (Can : Type 0) (result : Result (Unit {0}) StoreFault) : Type 0 where
+  pub reason : old.honest → Can → OnErr result (old.may_fail Store ⊎ (old.failures < new.failures))
+  pub unfailed : OnOk result (new.failures ≡ old.failures)
 
 -- something other than a file has the new name
-abbrev pub IsBlocked : {D : Type 0} → DiskOf D → D → Change → Type 0
-IsBlocked disk it (Write name bytes) = disk.barred it name
-IsBlocked disk it (Replace name bytes) = ⊥
-IsBlocked disk it (Rename from to) = disk.barred it to
-IsBlocked disk it (Remove name) = ⊥
+abbrev pub IsBlocked : DirectoryState → Change → Type 0
+IsBlocked it (Write name bytes) = it.barred name
+IsBlocked it (Replace name bytes) = ⊥
+IsBlocked it (Rename from to) = it.barred to
+IsBlocked it (Remove name) = ⊥
 
--- why a change fails while the directory is held alone
-abbrev pub FailsToMake : {D : Type 0} → DiskOf D → DiskStore D → DiskStore D → Change → Result (Unit {0}) StoreFault → Type 0
-FailsToMake disk old new change result =
-    Blames disk (directory_of old) (directory_of new) (IsTrue (is_applicable (disk.contents (directory_of old)).files change) × IsClear disk (directory_of old) change) result
-
--- why writing a file or the journal fails while the directory is held alone
-abbrev pub FailsToPut : {D : Type 0} → DiskOf D → DiskStore D → DiskStore D → Location → Result (Unit {0}) StoreFault → Type 0
-FailsToPut disk old new at result =
-    Blames disk (directory_of old) (directory_of new) (IsFree disk (directory_of old) at × IsFree disk (directory_of old) location.Temporary) result
+-- nothing other than a file is at the location or at the path of the temporary file
+abbrev pub CanPut : DirectoryState → Location → Type 0
+CanPut it at = IsFree it at × IsFree it location.Temporary
 
 -- the journal is the one that was read, if it was read, or the run has checked that while holding the directory alone
-abbrev pub IsAsRead : {D : Type 0} → DiskOf D → DiskStore D → Type 0
-IsAsRead disk store = IsTrue (is_entered store) ⊎ IfSome (seen_of store) (λ seen. disk.stamp (directory_of store) ≡ seen)
-
--- why holding the directory alone fails
-abbrev pub FailsToHold : {D : Type 0} → DiskOf D → DiskStore D → DiskStore D → Result (Unit {0}) StoreFault → Type 0
-FailsToHold disk old new result = Blames disk (directory_of old) (directory_of new) (IsAsRead disk old) result
+abbrev pub IsAsRead : {D : Type 0} → (D → DirectoryState) → DiskStore D → Type 0
+IsAsRead state store = IsTrue store.is_entered ⊎ IfSome store.seen (λ seen. (state store.directory).stamp ≡ seen)
 
 -- why a change fails if the directory may have to be held first
-abbrev pub FailsToHoldAndMake : {D : Type 0} → DiskOf D → DiskStore D → DiskStore D → Change → Result (Unit {0}) StoreFault → Type 0
-FailsToHoldAndMake disk old new change result =
-    Blames disk (directory_of old) (directory_of new) (IsAsRead disk old × IsTrue (is_applicable (disk.contents (directory_of old)).files change) × IsClear disk (directory_of old) change) result
+abbrev pub FailsToMake : {D : Type 0} → (D → DirectoryState) → DiskStore D → DiskStore D → Change → Result (Unit {0}) StoreFault → Type 0
+FailsToMake state old new change result = Blames (state old.directory) (state new.directory) (IsAsRead state old × CanMake (state old.directory) change) result
 
 -- why writing a file or the journal fails if the directory may have to be held first
-abbrev pub FailsToHoldAndPut : {D : Type 0} → DiskOf D → DiskStore D → DiskStore D → Location → Result (Unit {0}) StoreFault → Type 0
-FailsToHoldAndPut disk old new at result =
-    Blames disk (directory_of old) (directory_of new) (IsAsRead disk old × IsFree disk (directory_of old) at × IsFree disk (directory_of old) location.Temporary) result
+abbrev pub FailsToPut : {D : Type 0} → (D → DirectoryState) → DiskStore D → DiskStore D → Location → Result (Unit {0}) StoreFault → Type 0
+FailsToPut state old new at result = Blames (state old.directory) (state new.directory) (IsAsRead state old × CanPut (state old.directory) at) result
 
--- ---- holding
-
--- the stamp of the journal that was read is remembered, to be compared later
-pub record RemembersJournal {D T : Type 0} (disk : DiskOf D) (old new : DiskStore D) (result : Result T ReadFault) : Type 0 where
-  pub some : OnOk result (IsSome (seen_of new))
-  pub seen : disk.honest (directory_of old) → OnOk result (seen_of new ≡ Some (disk.stamp (directory_of new)))
-  pub entered : is_entered new ≡ is_entered old
-
--- `look_again`: the journal has the stamp that was seen when it was read; nothing else changes
-pub record LooksAgain {D : Type 0} (disk : DiskOf D) (old new : DiskStore D) (seen : Option Stamp) (result : Result (Unit {0}) StoreFault) : Type 0 where
-  pub stays : Stays disk (directory_of old) (directory_of new)
-  pub same : OnOk result (disk.stamp (directory_of new) ≡ seen)
-  pub reason : disk.honest (directory_of old) → disk.stamp (directory_of old) ≡ seen → OnErr result (disk.may_fail (directory_of old) Store)
-  pub unfailed : disk.failures (directory_of new) ≡ disk.failures (directory_of old)
-  pub possible : disk_impossible new ≡ disk_impossible old
+-- the journal is read, and its stamp remembered, to be compared later. That fails if anything other than a file is at its
+-- path, and otherwise only because of the directory
+pub record RemembersJournal {D T : Type 0} (state : D → DirectoryState) (old new : DiskStore D) (result : Result T ReadFault) : Type 0 where
+  pub some : OnOk result (IsSome new.seen)
+  pub seen : (state old.directory).honest → OnOk result (new.seen ≡ Some (state new.directory).stamp)
+  pub entered : new.is_entered ≡ old.is_entered
+  pub barred : (state old.directory).honest → (state new.directory).barred (path_of location.Journal) → IsErrOf result Store
+  pub absent : (state old.directory).honest → (state old.directory).contents.journal ≡ None → IfErr result (λ fault. fault ≡ Store)
+  pub reason : (state old.directory).honest → IsFree (state old.directory) location.Journal → FailsToRead state old new result
 
 -- the directory is held alone, and the journal is the one that was read; nothing else changes
-pub record HoldsDirectory {D : Type 0} (disk : DiskOf D) (old new : DiskStore D) (result : Result (Unit {0}) StoreFault) : Type 0 where
-  pub stays : Stays disk (directory_of old) (directory_of new)
-  pub alone : OnOk result (disk.alone (directory_of new))
-  pub same : IsFalse (is_entered old) → IfSome (seen_of old) (λ seen. OnOk result (disk.stamp (directory_of new) ≡ seen))
-  pub entered : is_entered new ≡ (is_entered old || is_ok result)
-  pub seen : seen_of new ≡ seen_of old
-  pub blames : FailsToHold disk old new result
-  pub possible : disk_impossible new ≡ disk_impossible old
-
--- ---- writing
-
--- a change that can't be made leaves the directory as it is
-abbrev pub Blocks : {D : Type 0} → DiskOf D → DiskStore D → DiskStore D → Change → Result (Unit {0}) StoreFault → Type 0
-Blocks disk old new change result =
-    disk.honest (directory_of old) → IsFalse (is_applicable (disk.contents (directory_of old)).files change) ⊎ IsBlocked disk (directory_of old) change
-    → IsErr result × (directory_of new ≡ directory_of old)
+pub record HoldsDirectory {D : Type 0} (state : D → DirectoryState) (old new : DiskStore D) (result : Result (Unit {0}) StoreFault) : Type 0 where
+  pub stays : Stays (state old.directory) (state new.directory)
+  pub alone : OnOk result (state new.directory).alone
+  pub same : IsFalse old.is_entered → IfSome old.seen (λ seen. OnOk result ((state new.directory).stamp ≡ seen))
+  pub blames : Blames (state old.directory) (state new.directory) (IsAsRead state old) result
+  pub rest : new ≡ record old { directory = new.directory; is_entered = old.is_entered || is_ok result }
 
 -- `make_temporary`: the temporary file is written, and its bytes are durable; the files and the journal stay
-pub record MakesTemporary {D : Type 0} (disk : DiskOf D) (old new : DiskStore D) (bytes : List ℕ) (result : Result (Unit {0}) StoreFault) : Type 0 where
-  pub honest : disk.honest (directory_of old) → disk.honest (directory_of new)
-  pub alone : disk.alone (directory_of old) → disk.alone (directory_of new)
-  pub written : disk.honest (directory_of old) → OnOk result (disk.temporary (directory_of new) ≡ Some bytes)
-  pub same : disk.honest (directory_of old) → disk.contents (directory_of new) ≡ disk.contents (directory_of old)
-  pub barred : disk.honest (directory_of old) → NoMoreBarred disk (directory_of old) (directory_of new)
-  pub blocked : disk.honest (directory_of old) → disk.barred (directory_of old) (path_of location.Temporary) → IsErr result × (directory_of new ≡ directory_of old)
-  pub remains : disk.honest (directory_of old) → NoMoreCrashStates (disk.crash_states (directory_of old)) (disk.crash_states (directory_of new))
-  pub kept : disk.honest (directory_of old) → OnOk result (AreKept (disk.temporary_crash_states (directory_of new)) (Some bytes))
-  pub blames : Blames disk (directory_of old) (directory_of new) (IsFree disk (directory_of old) location.Temporary) result
-  pub possible : disk_impossible new ≡ disk_impossible old
+pub record MakesTemporary {D : Type 0} (state : D → DirectoryState) (old new : D) (bytes : List ℕ) (result : Result (Unit {0}) StoreFault) : Type 0 where
+  pub honest : (state old).honest → (state new).honest
+  pub alone : (state old).alone → (state new).alone
+  pub written : (state old).honest → OnOk result ((state new).temporary ≡ Some bytes)
+  pub same : (state old).honest → (state new).contents ≡ (state old).contents
+  pub barred : (state old).honest → NoMore (state old).barred (state new).barred
+  pub blocked : (state old).honest → (state old).barred (path_of location.Temporary) → IsErr result × (new ≡ old)
+  pub remains : (state old).honest → NoMore (state old).crash_states (state new).crash_states
+  pub kept : (state old).honest → OnOk result (AreKept (state new).temporary_crash_states (Some bytes))
+  pub blames : Blames (state old) (state new) (IsFree (state old) location.Temporary) result
 
 -- `write_at`: a file or the journal is written, over an existing one; something that isn't a file makes the call fail
-pub record WritesAt {D : Type 0} (disk : DiskOf D) (old new : DiskStore D) (at : Location) (bytes : List ℕ) (result : Result (Unit {0}) StoreFault) : Type 0 where
-  pub writes : Writes (over disk) old new (put_at (disk.contents (directory_of old)) at bytes) result
-  pub barred : disk.honest (directory_of old) → disk.barred (directory_of old) (path_of at) ⊎ disk.barred (directory_of old) (path_of location.Temporary) → IsErr result × (directory_of new ≡ directory_of old)
-  pub blames : FailsToPut disk old new at result
-  pub possible : disk_impossible new ≡ disk_impossible old
+pub record WritesAt {D : Type 0} (state : D → DirectoryState) (old new : DiskStore D) (at : Location) (bytes : List ℕ) (result : Result (Unit {0}) StoreFault) : Type 0 where
+  pub writes : Writes (over state) old new (put_at (state old.directory).contents at bytes) result
+  pub barred : (state old.directory).honest → (state old.directory).barred (path_of at) ⊎ (state old.directory).barred (path_of location.Temporary) → IsErr result × (new.directory ≡ old.directory)
+  pub blames : Blames (state old.directory) (state new.directory) (CanPut (state old.directory) at) result
+  pub rest : new ≡ record old { directory = new.directory }
+
+-- a change is made while the directory is held alone. One that can't be made or is blocked leaves the directory as it is
+pub record Changes {D : Type 0} (state : D → DirectoryState) (old new : DiskStore D) (change : Change) (result : Result (Unit {0}) StoreFault) : Type 0 where
+  pub writes : Writes (over state) old new (with_change (state old.directory).contents change) result
+  pub blocked : (state old.directory).honest → IsFalse (is_applicable (state old.directory).contents.files change) ⊎ IsBlocked (state old.directory) change → IsErr result × (new.directory ≡ old.directory)
+  pub possible : (state old.directory).honest → IsTrue (is_applicable (state old.directory).contents.files change) → new.impossible.count ≡ old.impossible.count
+  pub grows : old.impossible.count ≤ new.impossible.count
+  pub blames : Blames (state old.directory) (state new.directory) (CanMake (state old.directory) change) result
+  pub rest : new ≡ record old { directory = new.directory; impossible = new.impossible }

@@ -2,8 +2,5 @@ pub mod Cuts
 pub mod Stores
 pub mod Directories
 pub mod Disk
-pub mod Filling
-pub mod Reading
-pub mod Listings
-pub mod Looking
+pub mod Runtime
 pub mod Modes

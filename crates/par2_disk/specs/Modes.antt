@@ -9,36 +9,15 @@ use Rattle.par2_disk.specs.declared.modes.Modes.{Modes}
 abbrev pub GivesNoMore : ℕ → ℕ → Type 0
 GivesNoMore mode other = bit_and mode other ≡ mode
 
--- the group may read
-abbrev pub CanGroupRead : ℕ → Type 0
-CanGroupRead mode = bit_and mode 0o040 ≡ 0 → ⊥
-
--- others may read
-abbrev pub CanOthersRead : ℕ → Type 0
-CanOthersRead mode = bit_and mode 0o004 ≡ 0 → ⊥
-
--- the permissions give nothing to the group or to others if they can't read a file of this mode
-pub record IsClosedAs (permissions mode : ℕ) : Type 0 where
-  pub group : bit_and mode 0o040 ≡ 0 → bit_and permissions 0o070 ≡ 0
-  pub others : bit_and mode 0o004 ≡ 0 → bit_and permissions 0o007 ≡ 0
-
--- `left` keeps all permissions that a file of this mode doesn't forbid
-pub record AreLeft (permissions left mode : ℕ) : Type 0 where
+-- `left` are those permissions that may be given beside a file of this mode: they give nothing to the group or to
+-- others if they can't read it, and keep all permissions otherwise
+pub record IsBeside (permissions left mode : ℕ) : Type 0 where
+  pub within : GivesNoMore left permissions
   pub owner : bit_and left 0o600 ≡ bit_and permissions 0o600
-  pub group : CanGroupRead mode → bit_and left 0o070 ≡ bit_and permissions 0o070
-  pub others : CanOthersRead mode → bit_and left 0o007 ≡ bit_and permissions 0o007
-
--- the permissions that no file that was read forbids
-abbrev pub allowed_of : Modes → ℕ
-allowed_of modes = modes.allowed
-
--- the mode of the journal that was read
-abbrev pub journal_mode : Modes → ℕ
-journal_mode modes = modes.journal
-
--- the names of the files that were read, each with its mode
-abbrev pub file_modes : Modes → List (List ℕ × ℕ)
-file_modes modes = modes.files.items
+  pub no_group : bit_and mode 0o040 ≡ 0 → bit_and left 0o070 ≡ 0
+  pub no_others : bit_and mode 0o004 ≡ 0 → bit_and left 0o007 ≡ 0
+  pub group : (bit_and mode 0o040 ≡ 0 → ⊥) → bit_and left 0o070 ≡ bit_and permissions 0o070
+  pub others : (bit_and mode 0o004 ≡ 0 → ⊥) → bit_and left 0o007 ≡ bit_and permissions 0o007
 
 -- the mode has no bit that a file read under the name lacked
 abbrev pub IsWithinThoseNamed : List (List ℕ × ℕ) → List ℕ → ℕ → Type 0
@@ -46,12 +25,12 @@ IsWithinThoseNamed files name mode = All (λ (file : List ℕ × ℕ). file.0 �
 
 -- the mode of a file that was read at a location is noted
 abbrev pub IsNotedAt : Location → ℕ → Modes → Modes → Type 0
-IsNotedAt (location.File name) mode old new = (file_modes new ≡ file_modes old ++ (name.now, mode) ∷ []) × (journal_mode new ≡ journal_mode old)
-IsNotedAt location.Journal mode old new = (file_modes new ≡ file_modes old) × (journal_mode new ≡ bit_and (journal_mode old) mode)
-IsNotedAt location.Temporary mode old new = (file_modes new ≡ file_modes old) × (journal_mode new ≡ journal_mode old)
+IsNotedAt (location.File name) mode old new = (new.files.items ≡ old.files.items ++ (name.now, mode) ∷ []) × (new.journal ≡ old.journal)
+IsNotedAt location.Journal mode old new = (new.files.items ≡ old.files.items) × (new.journal ≡ bit_and old.journal mode)
+IsNotedAt location.Temporary mode old new = (new.files.items ≡ old.files.items) × (new.journal ≡ old.journal)
 
 -- the mode has no bit that the file read at the location lacked
 abbrev pub IsAllowedAt : Modes → Location → ℕ → Type 0
-IsAllowedAt modes (location.File name) mode = IsWithinThoseNamed (file_modes modes) name.now mode
-IsAllowedAt modes location.Journal mode = GivesNoMore mode (journal_mode modes)
+IsAllowedAt modes (location.File name) mode = IsWithinThoseNamed modes.files.items name.now mode
+IsAllowedAt modes location.Journal mode = GivesNoMore mode modes.journal
 IsAllowedAt modes location.Temporary mode = Unit {0}

@@ -1,9 +1,8 @@
 //! The current directory, by calls of the runtime. Its effects on the disk are tested, not proved: it isn't `honest`
 //! for contracts, so a `DiskStore` over it promises no more than a store that may do anything.
-ghost use Rattle.std.specs.Prelude.{◌≡◌, ◌+◌, ◌⊎◌, ◌↔◌, Err, IfErr, IfOk, IsOk, IsErr, IsTrue, OnErr};
+ghost use Rattle.std.specs.Prelude.{◌≡◌, ◌+◌, ◌⊎◌, ◌↔◌, Err, IfErr, IfOk, IsOk, IsErr, IsErrAnd, IsTrue, OnErr};
 ghost use Rattle.std.specs.IoError.{error_kind};
-ghost use Rattle.par2_disk.specs.Directories.{IsFoundBy};
-ghost use Rattle.par2_disk.specs.Reading.{IsReportedAs};
+ghost use Rattle.par2_disk.specs.Runtime.{IsFoundBy, IsReportedAs};
 ghost use Rattle.par2_disk.specs.Stores.{CountsFailures};
 
 use crate::directory::{Directory, Found, Location};
@@ -11,7 +10,6 @@ use crate::listing::names_listed;
 use crate::modes::Modes;
 use crate::reading::{read_opened, sync_opened, written_to};
 use crate::stamp::{Stamp, stamp_by};
-use crate::view::Disk;
 use crate::{Count, ReadFault, StoreFault};
 use par2_files::Name;
 use std::alloc::Global;
@@ -72,8 +70,7 @@ fn read_noted(
     location: Location<'_>,
     size: u64,
 ) -> Result<(Vec<u8>, Stamp), ReadFault>
-    ensures unopened { IsErr opened → IsErr result }
-    ensures reported { IfErr opened (λ error. IfErr result (IsReportedAs error)) }
+    ensures { IfErr opened (λ error. IsErrAnd result (IsReportedAs error)) }
 {
     let file = opened?;
     let metadata = file.metadata()?;
@@ -131,14 +128,12 @@ impl<'r, R: Files<File = File> + AllocGlobal> CurrentDirectory<'r, R> {
         Ok(folder)
     }
 
-    // The last step of a call that locks, writes or syncs: counts a failure, for contracts
-    // only, if it returned an error.
+    // The last step of a call that locks, writes or syncs: counts a failure, for contracts only, if it returned an error.
     fn counted(&mut self, answer: io::Result<()>) -> Result<(), StoreFault>
         ensures made { IsOk result ↔ IsOk answer }
         ensures failed { OnErr result (self.new.failures.count ≡ self.old.failures.count + 1) }
         ensures failures { CountsFailures (λ it. it.failures.count) self.old self.new result }
-        ensures alone { self.new.is_alone ≡ self.old.is_alone }
-        ensures looked { self.new.looked ≡ self.old.looked }
+        ensures rest { self.new ≡ record self.old { failures = self.new.failures } }
     {
         match answer {
             Ok(()) => Ok(()),
@@ -184,32 +179,23 @@ impl<'r, R: Files<File = File> + AllocGlobal> CurrentDirectory<'r, R> {
     }
 }
 
-impl<'r, R: Files<File = File> + AllocGlobal> Disk for CurrentDirectory<'r, R> {
+impl<'r, R: Files<File = File> + AllocGlobal> Directory for CurrentDirectory<'r, R> {
     ghost use Rattle.std.specs.Prelude.{None, IsTrue, ⊤};
     ghost use Rattle.std.specs.FinMap.{empty};
 
-    ghost honest = { λ _. ⊥ };
+    ghost state = { λ directory. record {
+      honest = ⊥;
+      alone = IsTrue directory.is_alone;
+      stamp = directory.looked;
+      contents = record { files = empty; journal = None };
+      temporary = None;
+      crash_states = λ _. ⊥;
+      temporary_crash_states = λ _. ⊥;
+      barred = λ _. ⊥;
+      may_fail = λ _. ⊤;
+      failures = directory.failures.count;
+    } };
 
-    ghost alone = { λ directory. IsTrue directory.is_alone };
-
-    ghost stamp = { λ directory. directory.looked };
-
-    ghost contents = { λ _. record { files = empty; journal = None } };
-
-    ghost temporary = { λ _. None };
-
-    ghost crash_states = { λ _ _. ⊥ };
-
-    ghost temporary_crash_states = { λ _ _. ⊥ };
-
-    ghost barred = { λ _ _. ⊥ };
-
-    ghost may_fail = { λ _ _. ⊤ };
-
-    ghost failures = { λ directory. directory.failures.count };
-}
-
-impl<'r, R: Files<File = File> + AllocGlobal> Directory for CurrentDirectory<'r, R> {
     fn share(&mut self) -> Result<(), StoreFault> {
         if self.folder.is_some() {
             return Ok(());

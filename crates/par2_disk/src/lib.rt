@@ -7,6 +7,7 @@
 mod current;
 mod directory;
 mod disk;
+mod entry;
 mod listing;
 mod modes;
 mod reading;

@@ -1,56 +1,19 @@
 //! The names of the files of a directory, from its listing: `names_listed` collects the names of its items
 //! (`names_given`, `add_name`, `name_in`, `name_of`) and sorts them.
-ghost use Rattle.std.specs.Prelude.{◌≡◌, ◌⊎◌, List, ℕ, [], Result, IfOk, IfErr, IsErr, IsErrOf, IsPermutation};
+ghost use Rattle.std.specs.Prelude.{◌⊎◌, List, ℕ, IfOk, IfErr, IsErrAnd, IsErrOf, IsPermutation};
 ghost use Rattle.std.specs.Cmp.Lexicographic.{slice_cmp};
-ghost use Rattle.std.specs.IoError.{error_kind};
 ghost use Rattle.std.specs.Iterator.{IsFinite};
 ghost use Rattle.std.specs.List.Sorted.{IsSorted};
 ghost use Rattle.std.specs.Ordering.{nat_cmp};
-ghost use Rattle.std.specs.declared.fs.attrs.FileType.{FileType};
 ghost use Rattle.std.specs.declared.io.Error.{Error};
-ghost use Rattle.par2_disk.specs.Listings.{Adds, AreNamesOf, CountsAs, FailsAtItem, FailsBy, IsCounted, IsMisnamed};
-ghost use Rattle.par2_disk.specs.Reading.{IsReportedAs};
+ghost use Rattle.par2_disk.specs.Runtime.{Adds, AreNamesOf, CountsAs, FailsAtItem, FailsBy, IsCounted, IsMisnamed, IsOutOfMemory, IsReportedAs};
 
 use crate::ReadFault;
+use crate::entry::Entry;
 use par2_files::{BadName, Name, is_reserved};
 use std::alloc::Global;
-use std::fs::{DirEntry, FileType, Files};
+use std::fs::FileType;
 use std::io::{self, Error, ErrorKind};
-
-/// An entry of a directory.
-pub trait Entry {
-    /// The results that `kind` may return.
-    ghost kind_gives: { Self → Result FileType Error → Type 0 };
-
-    /// The bytes of its name.
-    ghost entry_name: { Self → List ℕ };
-
-    /// Whether it is a file, a folder or something else, or an error if that is unknown.
-    fn kind(&self) -> io::Result<FileType>
-        ensures { kind_gives self.now result };
-
-    /// Its name, which need not be a `Name`.
-    fn name(&self) -> &str
-        ensures { result.now ≡ entry_name self.now };
-}
-
-// Nothing is promised of the kind that the runtime returns.
-impl<R: Files + AllocGlobal> Entry for DirEntry<R> {
-    ghost use Rattle.std.specs.Prelude.{⊤};
-    ghost use Rattle.std.specs.Fs.{dir_entry_name};
-
-    ghost kind_gives = { λ _ _. ⊤ };
-
-    ghost entry_name = { dir_entry_name };
-
-    fn kind(&self) -> io::Result<FileType> {
-        self.file_type()
-    }
-
-    fn name(&self) -> &str {
-        self.file_name()
-    }
-}
 
 // The name of an entry of this kind if it is a file, and None if it isn't or belongs to the history. Another name that
 // isn't a `Name` is an error, because a run must not overlook a file.
@@ -71,8 +34,8 @@ fn name_of(kind: FileType, name: &str) -> io::Result<Option<Name>>
 // The name of the file that an item of a listing is, or None if it is no file or belongs to the history. It fails with
 // the item's error, with that of asking its kind, or because the file's name isn't a `Name`.
 fn name_in<E: Entry + Drop>(item: io::Result<E>) -> io::Result<Option<Name>>
-    ensures name { IfOk result (IsCounted E.kind_gives E.entry_name item) }
-    ensures failed { IfErr result (FailsBy E.kind_gives E.entry_name item) }
+    ensures name { IfOk result (IsCounted E.Entry item) }
+    ensures failed { IfErr result (FailsBy E.Entry item) }
 {
     let entry = item?;
     name_of(entry.kind()?, entry.name())
@@ -81,10 +44,8 @@ fn name_in<E: Entry + Drop>(item: io::Result<E>) -> io::Result<Option<Name>>
 // Adds the name of an item of a listing to `names`, if the item is a file of the folder. Out of memory is an error,
 // too.
 fn add_name<E: Entry + Drop>(names: &mut Vec<Name>, item: io::Result<E>) -> io::Result<()>
-    ensures added { IfOk result (λ _. Adds E.kind_gives E.entry_name names.old.items item
-        names.new.items) }
-    ensures failed { IfErr result (λ error. error_kind error ≡ ErrorKind.OutOfMemory
-        ⊎ FailsBy E.kind_gives E.entry_name item error) }
+    ensures added { IfOk result (λ _. Adds E.Entry names.old.items item names.new.items) }
+    ensures failed { IfErr result (λ error. IsOutOfMemory error ⊎ FailsBy E.Entry item error) }
 {
     if let Some(name) = name_in(item)? {
         names.push(name)?;
@@ -98,12 +59,9 @@ fn names_given<I: Iterator<Item = io::Result<E>> + Drop, E: Entry + Drop>(
     listing: I,
     alloc: Global,
 ) -> io::Result<Vec<Name>>
-    requires can { I.can_next listing }
-    requires ends { IsFinite (I.remaining listing) }
-    ensures names { IfOk result (λ names. AreNamesOf E.kind_gives E.entry_name I.next_gives listing
-        names.items) }
-    ensures failed { IfErr result (λ error. error_kind error ≡ ErrorKind.OutOfMemory
-        ⊎ FailsAtItem E.kind_gives E.entry_name I.next_gives listing error) }
+    requires { I.can_next listing × IsFinite (I.remaining listing) }
+    ensures names { IfOk result (λ names. AreNamesOf E.Entry I.next_gives listing names.items) }
+    ensures err { IfErr result (λ e. IsOutOfMemory e ⊎ FailsAtItem E.Entry I.next_gives listing e) }
 {
     let mut names = Vec::new(alloc);
     for item in listing {
@@ -119,19 +77,16 @@ pub fn names_listed<I: Iterator<Item = io::Result<E>> + Drop, E: Entry + Drop>(
     alloc: Global,
 ) -> Result<Vec<Name>, ReadFault>
     // The listing can be iterated to its end.
-    requires can { IfOk opened I.can_next }
-    requires ends { IfOk opened (λ listing. IsFinite (I.remaining listing)) }
+    requires { IfOk opened (λ listing. I.can_next listing × IsFinite (I.remaining listing)) }
     // The result has the names of its files, sorted.
     ensures names { IfOk result (λ names. IfOk opened (λ listing. (given : List (List ℕ))
-        × AreNamesOf E.kind_gives E.entry_name I.next_gives listing given
-        × IsPermutation given names.items)) }
+        × AreNamesOf E.Entry I.next_gives listing given × IsPermutation given names.items)) }
     ensures sorted { IfOk result (λ names. IsSorted (slice_cmp nat_cmp) names.items) }
     // A failed open is reported by its kind. If an opened listing gives Store, one of its items failed.
-    ensures unopened { IsErr opened → IsErr result }
-    ensures reported { IfErr opened (λ error. IfErr result (IsReportedAs error)) }
+    ensures unopened { IfErr opened (λ error. IsErrAnd result (IsReportedAs error)) }
     ensures store { IsErrOf result ReadFault.Store → IfOk opened (λ listing.
         (error : Error) × IsReportedAs error ReadFault.Store
-        × FailsAtItem E.kind_gives E.entry_name I.next_gives listing error) }
+        × FailsAtItem E.Entry I.next_gives listing error) }
 {
     let mut names = names_given(opened?, alloc)?;
     names.sort_unstable();

@@ -1,7 +1,7 @@
 //! The modes of written files: nobody may read more than the files allow that were read. `note_at` notes each file that
 //! is read, and `mode_at` gives the mode of a file that is written. Modes are the permission bits, such as 0o644.
 ghost use Rattle.std.specs.Prelude.{◌≡◌, [], IsOk, bit_and};
-ghost use Rattle.par2_disk.specs.Modes.{allowed_of, file_modes, journal_mode, AreLeft, CanGroupRead, CanOthersRead, IsAllowedAt, IsClosedAs, IsNotedAt, GivesNoMore, IsWithinThoseNamed};
+ghost use Rattle.par2_disk.specs.Modes.{GivesNoMore, IsAllowedAt, IsBeside, IsNotedAt, IsWithinThoseNamed};
 
 use crate::directory::Location;
 use par2_files::Name;
@@ -10,44 +10,25 @@ use std::alloc::{AllocError, Global};
 // The most permissions that a new file may have.
 const ALL: u32 = 0o666;
 
-// `permissions`, without those of the group if it can't read a file of this mode. `GivesNoMore`: no bit is added.
-fn closed_to_group(permissions: u32, mode: u32) -> u32
-    ensures within { GivesNoMore result permissions }
-    ensures closed { bit_and mode 0o040 ≡ 0 → bit_and result 0o070 ≡ 0 }
-    ensures open { CanGroupRead mode → result ≡ permissions }
-    ensures owner { bit_and result 0o600 ≡ bit_and permissions 0o600 }
-    ensures others { bit_and result 0o007 ≡ bit_and permissions 0o007 }
+// `permissions`, limited to `others` unless a file of this mode has the permission `read`.
+fn unless_readable(permissions: u32, mode: u32, read: u32, others: u32) -> u32
+    ensures closed { bit_and mode read ≡ 0 → result ≡ bit_and permissions others }
+    ensures open { (bit_and mode read ≡ 0 → ⊥) → result ≡ permissions }
 {
-    if mode & 0o040 == 0 {
-        permissions & !0o070
-    } else {
-        permissions
-    }
-}
-
-// `permissions`, without those of others if they can't read a file of this mode. `GivesNoMore`: no bit is added.
-fn closed_to_others(permissions: u32, mode: u32) -> u32
-    ensures within { GivesNoMore result permissions }
-    ensures closed { bit_and mode 0o004 ≡ 0 → bit_and result 0o007 ≡ 0 }
-    ensures open { CanOthersRead mode → result ≡ permissions }
-    ensures owner { bit_and result 0o600 ≡ bit_and permissions 0o600 }
-    ensures group { bit_and result 0o070 ≡ bit_and permissions 0o070 }
-{
-    if mode & 0o004 == 0 {
-        permissions & !0o007
+    if mode & read == 0 {
+        permissions & others
     } else {
         permissions
     }
 }
 
 // The permissions that may be given beside a file of this mode: `permissions`, without those of the group and of
-// others, for each that can't read the file. For `note`.
+// others, for each that can't read the file. For `note_at`.
 fn beside(permissions: u32, mode: u32) -> u32
-    ensures within { GivesNoMore result permissions }
-    ensures closed { IsClosedAs result mode }
-    ensures left { AreLeft permissions result mode }
+    ensures { IsBeside permissions result mode }
 {
-    closed_to_others(closed_to_group(permissions, mode), mode)
+    let permissions = unless_readable(permissions, mode, 0o040, !0o070);
+    unless_readable(permissions, mode, 0o004, !0o007)
 }
 
 // `permissions`, limited to the mode of the file (name and mode) if it has this name. For `of_file`.
@@ -74,10 +55,10 @@ pub struct Modes {
 
 impl Modes {
     /// The modes before anything was read.
-    pub fn new(alloc: Global) -> Modes
-        ensures allowed { allowed_of result ≡ 0o666 }
-        ensures files { file_modes result ≡ [] }
-        ensures journal { journal_mode result ≡ 0o666 }
+    pub(crate) fn new(alloc: Global) -> Modes
+        ensures allowed { result.allowed ≡ 0o666 }
+        ensures files { result.files.items ≡ [] }
+        ensures journal { result.journal ≡ 0o666 }
     {
         Modes {
             allowed: ALL,
@@ -86,23 +67,11 @@ impl Modes {
         }
     }
 
-    // Limits what any written file is given to what may be given beside a file of this mode. For `note_at`.
-    fn note(&mut self, mode: u32)
-        ensures within { GivesNoMore (allowed_of self.new) (allowed_of self.old) }
-        ensures closed { IsClosedAs (allowed_of self.new) mode }
-        ensures left { AreLeft (allowed_of self.old) (allowed_of self.new) mode }
-        ensures files { file_modes self.new ≡ file_modes self.old }
-        ensures journal { journal_mode self.new ≡ journal_mode self.old }
-    {
-        self.allowed = beside(self.allowed, mode);
-    }
-
     /// Notes the mode of the file that was read at a location, for `mode_at`. Err if memory runs out; then outputs may
     /// have no more permissions than before.
-    pub fn note_at(&mut self, location: Location<'_>, mode: u32) -> Result<(), AllocError>
-        ensures within { GivesNoMore (allowed_of self.new) (allowed_of self.old) }
-        ensures closed { IsOk result → IsClosedAs (allowed_of self.new) mode }
-        ensures left { IsOk result → AreLeft (allowed_of self.old) (allowed_of self.new) mode }
+    pub(crate) fn note_at(&mut self, location: Location<'_>, mode: u32) -> Result<(), AllocError>
+        ensures within { GivesNoMore self.new.allowed self.old.allowed }
+        ensures beside { IsOk result → IsBeside self.old.allowed self.new.allowed mode }
         ensures location { IsOk result → IsNotedAt location.entry mode self.old self.new }
     {
         match location {
@@ -110,13 +79,13 @@ impl Modes {
             Location::Journal => self.journal &= mode,
             Location::Temporary => {}
         }
-        self.note(mode);
+        self.allowed = beside(self.allowed, mode);
         Ok(())
     }
 
     // The permissions, within 0o666, that each file read under the name had. For `mode_at`.
     fn of_file(&self, name: &Name) -> u32
-        ensures named { IsWithinThoseNamed (file_modes self.now) name.now result }
+        ensures named { IsWithinThoseNamed self.now.files.items name.now result }
         ensures all { GivesNoMore result 0o666 }
     {
         let mut permissions = ALL;
@@ -128,9 +97,9 @@ impl Modes {
 
     /// The mode for a file that is written at a location: 0o666, limited to what may be given beside the files that
     /// were read, and to the mode of the file that was read at the location, if any.
-    pub fn mode_at(&self, location: Location<'_>) -> u32
+    pub(crate) fn mode_at(&self, location: Location<'_>) -> u32
         ensures all { GivesNoMore result 0o666 }
-        ensures allowed { GivesNoMore result (allowed_of self.now) }
+        ensures allowed { GivesNoMore result self.now.allowed }
         ensures location { IsAllowedAt self.now location.entry result }
     {
         match location {

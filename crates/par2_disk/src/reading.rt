@@ -1,8 +1,8 @@
 //! Reading a file to its end (`read_opened`), writing one (`written_to`), and syncing it (`sync_opened`). Each takes
 //! the runtime's result of the open, so that the current directory passes errors on without a test.
 ghost use Rattle.std.specs.Io.KnownBytes.{Appends};
-ghost use Rattle.std.specs.Prelude.{◌≡◌, IfOk, IfErr, IfSome, IsErr};
-ghost use Rattle.par2_disk.specs.Reading.{IsReportedAs};
+ghost use Rattle.std.specs.Prelude.{◌≡◌, IfOk, IfErr, IfSome, IsErr, IsErrAnd};
+ghost use Rattle.par2_disk.specs.Runtime.{IsReportedAs};
 
 use crate::ReadFault;
 use std::alloc::{AllocError, Global};
@@ -70,8 +70,7 @@ pub fn read_opened<F: Read + Drop>(
 ) -> Result<Vec<u8>, ReadFault>
     ensures bytes { IfOk result (λ bytes. IfOk opened (λ file.
         IfSome (F.remaining file) (λ left. bytes.items ≡ left))) }
-    ensures unopened { IsErr opened → IsErr result }
-    ensures reported { IfErr opened (λ error. IfErr result (IsReportedAs error)) }
+    ensures unopened { IfErr opened (λ error. IsErrAnd result (IsReportedAs error)) }
 {
     let mut reader = opened?;
     read_within(&mut reader, alloc, size as usize, READS)

@@ -2,7 +2,8 @@
 //! writing call, to see that no other run has written the folder.
 ghost use Rattle.std.specs.Prelude.{◌≡◌, IfOk, IsErr};
 ghost use Rattle.std.specs.IoError.{error_kind};
-ghost use Rattle.par2_disk.specs.Looking.{IsStampOf, IsStampedBy};
+ghost use Rattle.std.specs.Fs.{metadata_len};
+ghost use Rattle.par2_disk.specs.Runtime.{IsStampedBy};
 
 use crate::StoreFault;
 use std::fs::Metadata;
@@ -21,9 +22,9 @@ pub struct Stamp {
 }
 
 impl Stamp {
-    /// The stamp of a file with this metadata. `IsStampOf`: contracts know only that the size is the file's.
+    /// The stamp of a file with this metadata. Contracts know only that the size is the file's.
     pub fn new(metadata: &Metadata) -> Stamp
-        ensures { IsStampOf metadata.now result }
+        ensures { result.size ≡ metadata_len metadata.now }
     {
         Stamp {
             device: metadata.dev(),

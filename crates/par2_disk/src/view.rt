@@ -1,8 +1,6 @@
-//! Ghost state for contracts: the state of stores and of directories, and counts.
-ghost use Rattle.std.specs.Prelude.{ℕ, List, Option, ◌≡◌, ◌+◌};
+//! Ghost state for contracts: the state of stores, and counts.
+ghost use Rattle.std.specs.Prelude.{ℕ, ◌≡◌, ◌+◌};
 ghost use Rattle.par2_spec.specs.Stores.{Contents};
-ghost use Rattle.par2_disk.specs.declared.stamp.Stamp.{Stamp};
-ghost use Rattle.par2_disk.specs.declared.store.ReadFault.{ReadFault};
 ghost use Rattle.std.specs.Borrow.{ftrue};
 
 use std::marker::Model;
@@ -27,39 +25,6 @@ pub trait Store {
 
     /// The number of writing calls, including those that failed.
     ghost writing_calls: { Self → ℕ };
-}
-
-/// The ghost state of a directory. It costs nothing at run time.
-pub trait Disk {
-    /// Whether only runs of this program write it, and reads return what was written.
-    ghost honest: { Self → Type 0 };
-
-    /// Whether the run holds it alone, so that no other run writes.
-    ghost alone: { Self → Type 0 };
-
-    /// The journal's stamp when it was last looked at, or `None` if there was no journal.
-    ghost stamp: { Self → Option Stamp };
-
-    /// The named files, and the journal.
-    ghost contents: { Self → Contents };
-
-    /// The bytes of the temporary file, if there is one.
-    ghost temporary: { Self → Option (List ℕ) };
-
-    /// The files and the journal that a power cut may leave now.
-    ghost crash_states: { Self → Contents → Type 0 };
-
-    /// The bytes of the temporary file that a power cut may leave now.
-    ghost temporary_crash_states: { Self → List ℕ → Type 0 };
-
-    /// Whether something other than a file is at a path.
-    ghost barred: { Self → List ℕ → Type 0 };
-
-    /// The faults that a reading call may return now.
-    ghost may_fail: { Self → ReadFault → Type 0 };
-
-    /// The number of failed calls that hold it, write or sync.
-    ghost failures: { Self → ℕ };
 }
 
 /// A ghost count.

@@ -1,5 +1,5 @@
 -- The state of a printer after bytes were written to it.
-use Rattle.std.specs.Prelude.{◌≡◌, ◌<◌, ℕ, List, Option, Result, true}
+use Rattle.std.specs.Prelude.{◌≡◌, ◌<◌, ◌≤◌, ℕ, List, [], length, take, Option, Result, MatchResult, true}
 use Rattle.std.specs.Io.KnownBytes.{Appends}
 use Rattle.par2_spec.specs.Writing as writing
 use Rattle.par2_output.specs.declared.printer.Printer.{Printer}
@@ -37,3 +37,8 @@ TookInVain contents old new bytes =
 -- proper prefix
 abbrev pub PrinterWrote : {W T E : Type 0} → (W → Option (List ℕ)) → Printer W → Printer W → List ℕ → Result T E → Type 0
 PrinterWrote contents old new bytes r = writing.Wrote (seen contents old) (seen contents new) bytes r
+
+-- one call that writes some of the bytes: it took at least one of them, and the first so many, or it failed and took none
+abbrev pub PrinterTookSome : {W E : Type 0} → (W → Option (List ℕ)) → Printer W → Printer W → List ℕ → Result ℕ E → Type 0
+PrinterTookSome contents old new bytes r = MatchResult r
+    (λ n. (0 < n) × (n ≤ length bytes) × PrinterTookAll contents old new (take n bytes)) (λ _. TookInVain contents old new [])

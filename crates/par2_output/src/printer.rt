@@ -1,10 +1,9 @@
 //! Writers whose failures are counted, and writing lines to them. `write_line` writes each string with `write_bytes`,
 //! which calls `Printer::write` until all bytes are taken. A run flushes once, at its end.
-ghost use Rattle.std.specs.Prelude.{◌≡◌, ◌+◌, ◌<◌, ◌≤◌, [], length, take, IfOk, OnOk, OnErr};
-ghost use Rattle.std.specs.Io.KnownBytes.{Appends};
+ghost use Rattle.std.specs.Prelude.{◌≡◌, ◌+◌, [], OnOk, OnErr};
 ghost use Rattle.std.specs.List.{flat_map};
 ghost use Rattle.par2_spec.specs.Output.{line};
-ghost use Rattle.par2_output.specs.PrinterStates.{IsFlushed, PrinterWrote, failures_of, writer_of};
+ghost use Rattle.par2_output.specs.PrinterStates.{IsFlushed, PrinterTookAll, PrinterTookSome, PrinterWrote, TookInVain, failures_of, writer_of};
 
 use par2_disk::Count;
 use std::io::{ErrorKind, Write};
@@ -69,17 +68,7 @@ impl<W: Write> Printer<W> {
     // One step of `write_bytes`: writes some of the bytes and returns how many. An interrupted call is made again. Any
     // other error counts as a failure, and so does a writer that takes no byte.
     fn write(&mut self, bytes: &[u8]) -> Result<usize, WriteFault>
-        // A success takes at least one byte, and exactly the first `n` of them.
-        ensures some { IfOk result (λ n. 0 < n) }
-        ensures within { IfOk result (λ n. n ≤ length bytes.now) }
-        ensures taken { IfOk result (λ n. Appends (W.contents (writer_of self.old))
-            (W.contents (writer_of self.new)) (take n bytes.now)) }
-        // A failure takes none.
-        ensures none { OnErr result (Appends (W.contents (writer_of self.old))
-            (W.contents (writer_of self.new)) []) }
-        // Failures are counted, and only failures.
-        ensures steady { OnOk result (failures_of self.new ≡ failures_of self.old) }
-        ensures cause { OnErr result (failures_of self.old < failures_of self.new) }
+        ensures { PrinterTookSome W.contents self.old self.new bytes.now result }
     {
         self.is_flushed = false;
         let mut interruptions = 0;
@@ -97,11 +86,9 @@ impl<W: Write> Printer<W> {
     /// Flushes the writer, as the last step of printing. An interrupted call is made again; any other error counts as a
     /// failure.
     pub fn flush(&mut self) -> Written
-        ensures bytes { Appends (W.contents (writer_of self.old))
-            (W.contents (writer_of self.new)) [] }
         ensures flushed { OnOk result (IsFlushed self.new) }
-        ensures steady { OnOk result (failures_of self.new ≡ failures_of self.old) }
-        ensures cause { OnErr result (failures_of self.old < failures_of self.new) }
+        ensures kept { OnOk result (PrinterTookAll W.contents self.old self.new []) }
+        ensures failed { OnErr result (TookInVain W.contents self.old self.new []) }
     {
         let mut retries = 0;
         while retries < u64::MAX {

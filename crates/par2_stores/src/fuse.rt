@@ -1,8 +1,8 @@
 //! A store that passes its first calls on to another store, and then fails, as if the run were stopped there. Each call
 //! first takes its fate from `next_call`. Tests stop a run at each of its calls with it.
-ghost use Rattle.std.specs.Prelude.{◌≡◌, ◌+◌};
+ghost use Rattle.std.specs.Prelude.{◌≡◌};
 ghost use Rattle.par2_stores.specs.Fuse.{fuse, inner_store, fuse_writing_calls, calls_left, change_in, does_work, Becomes, FusesChange};
-ghost use Rattle.par2_disk.specs.Stores.{CountsFailures, Makes};
+ghost use Rattle.par2_disk.specs.Stores.{Makes};
 
 use par2_disk::{Count, FolderStore, ReadFault, Store, StoreFault};
 use par2_files::Name;
@@ -44,7 +44,6 @@ enum Fate {
 // Makes the change in the other store, by the one writing call for it. For `make`.
 fn make_in<S: FolderStore>(store: &mut S, change: BorrowedChange<'_>) -> Result<(), StoreFault>
     ensures made { Makes S.Store store.old store.new (change_in change.entry) result }
-    ensures failures { CountsFailures S.failures store.old store.new result }
 {
     match change {
         BorrowedChange::Write(name, bytes) => store.write(name, bytes),
@@ -102,8 +101,6 @@ impl<S: FolderStore> FuseStore<S> {
     // ghost state of this store from that of the other.
     fn make(&mut self, change: BorrowedChange<'_>) -> Result<(), StoreFault>
         ensures made { Makes (fuse S.Store) self.old self.new (change_in change.entry) result }
-        ensures failures { CountsFailures (fuse S.Store).failures self.old self.new result }
-        ensures counted { fuse_writing_calls self.new ≡ fuse_writing_calls self.old + 1 }
         ensures fused { FusesChange S.Store self.old self.new (change_in change.entry) result }
     {
         self.writing_calls.rise();
@@ -119,33 +116,30 @@ impl<S: FolderStore> FuseStore<S> {
 }
 
 impl<S: FolderStore> Store for FuseStore<S> {
-    ghost use Rattle.std.specs.Prelude.{◌+◌};
-    ghost use Rattle.par2_stores.specs.Fuse.{inner_store, fuse_failures, fuse_writing_calls};
+    ghost use Rattle.par2_stores.specs.Fuse.{fuse};
 
-    ghost honest = { λ store. S.honest (inner_store store) };
+    ghost honest = { (fuse S.Store).honest };
 
-    ghost contents = { λ store. S.contents (inner_store store) };
+    ghost contents = { (fuse S.Store).contents };
 
-    ghost crash_states = { λ store. S.crash_states (inner_store store) };
+    ghost crash_states = { (fuse S.Store).crash_states };
 
-    ghost failures = { λ store. S.failures (inner_store store) + fuse_failures store };
+    ghost failures = { (fuse S.Store).failures };
 
-    ghost impossible = { λ store. S.impossible (inner_store store) };
+    ghost impossible = { (fuse S.Store).impossible };
 
-    ghost writing_calls = { fuse_writing_calls };
+    ghost writing_calls = { (fuse S.Store).writing_calls };
 }
 
 // What the trait's contracts don't say (`FusesRead`, `FusesChange`, `FusesJournal`): a call was passed on, or it failed,
 // and the first writing call that fails may have done its work.
 impl<S: FolderStore> FolderStore for FuseStore<S> {
-    ghost use Rattle.std.specs.Prelude.{◌≡◌, ◌+◌};
     ghost use Rattle.par2_spec.specs.Changes.{Write, Replace, Rename, Remove};
-    ghost use Rattle.par2_stores.specs.Fuse.{fuse, fuse_writing_calls, FusesChange, FusesJournal, FusesRead};
-    ghost use Rattle.par2_disk.specs.Stores.{CountsFailures, CountsReadFailures, Makes, OnlyReads, PutsJournal, ReadsFile, ReadsJournal, ReadsNames};
+    ghost use Rattle.par2_stores.specs.Fuse.{fuse, FusesChange, FusesJournal, FusesRead};
+    ghost use Rattle.par2_disk.specs.Stores.{CountsReadFailures, Makes, PutsJournal, ReadsFile, ReadsJournal, ReadsNames};
 
     fn names(&mut self, alloc: Global) -> Result<Vec<Name>, ReadFault>
         ensures names { ReadsNames (fuse S.Store) self.old self.new result }
-        ensures reads { OnlyReads (fuse S.Store) self.old self.new }
         ensures failures { CountsReadFailures (fuse S.Store).failures self.old self.new result }
         ensures fused { FusesRead self.old self.new result }
     {
@@ -157,7 +151,6 @@ impl<S: FolderStore> FolderStore for FuseStore<S> {
 
     fn read(&mut self, alloc: Global, name: &Name) -> Result<Vec<u8>, ReadFault>
         ensures file { ReadsFile (fuse S.Store) self.old self.new name.now result }
-        ensures reads { OnlyReads (fuse S.Store) self.old self.new }
         ensures failures { CountsReadFailures (fuse S.Store).failures self.old self.new result }
         ensures fused { FusesRead self.old self.new result }
     {
@@ -169,7 +162,6 @@ impl<S: FolderStore> FolderStore for FuseStore<S> {
 
     fn read_journal(&mut self, alloc: Global) -> Result<Option<Vec<u8>>, ReadFault>
         ensures journal { ReadsJournal (fuse S.Store) self.old self.new result }
-        ensures reads { OnlyReads (fuse S.Store) self.old self.new }
         ensures failures { CountsReadFailures (fuse S.Store).failures self.old self.new result }
         ensures fused { FusesRead self.old self.new result }
     {
@@ -181,8 +173,6 @@ impl<S: FolderStore> FolderStore for FuseStore<S> {
 
     fn write(&mut self, name: &Name, bytes: &[u8]) -> Result<(), StoreFault>
         ensures made { Makes (fuse S.Store) self.old self.new (Write name.now bytes.now) result }
-        ensures failures { CountsFailures (fuse S.Store).failures self.old self.new result }
-        ensures counted { fuse_writing_calls self.new ≡ fuse_writing_calls self.old + 1 }
         ensures fused { FusesChange S.Store self.old self.new (Write name.now bytes.now) result }
     {
         self.make(BorrowedChange::Write(name, bytes))
@@ -190,8 +180,6 @@ impl<S: FolderStore> FolderStore for FuseStore<S> {
 
     fn replace(&mut self, name: &Name, bytes: &[u8]) -> Result<(), StoreFault>
         ensures made { Makes (fuse S.Store) self.old self.new (Replace name.now bytes.now) result }
-        ensures failures { CountsFailures (fuse S.Store).failures self.old self.new result }
-        ensures counted { fuse_writing_calls self.new ≡ fuse_writing_calls self.old + 1 }
         ensures fused { FusesChange S.Store self.old self.new (Replace name.now bytes.now) result }
     {
         self.make(BorrowedChange::Replace(name, bytes))
@@ -199,8 +187,6 @@ impl<S: FolderStore> FolderStore for FuseStore<S> {
 
     fn rename(&mut self, from: &Name, to: &Name) -> Result<(), StoreFault>
         ensures made { Makes (fuse S.Store) self.old self.new (Rename from.now to.now) result }
-        ensures failures { CountsFailures (fuse S.Store).failures self.old self.new result }
-        ensures counted { fuse_writing_calls self.new ≡ fuse_writing_calls self.old + 1 }
         ensures fused { FusesChange S.Store self.old self.new (Rename from.now to.now) result }
     {
         self.make(BorrowedChange::Rename(from, to))
@@ -208,8 +194,6 @@ impl<S: FolderStore> FolderStore for FuseStore<S> {
 
     fn remove(&mut self, name: &Name) -> Result<(), StoreFault>
         ensures made { Makes (fuse S.Store) self.old self.new (Remove name.now) result }
-        ensures failures { CountsFailures (fuse S.Store).failures self.old self.new result }
-        ensures counted { fuse_writing_calls self.new ≡ fuse_writing_calls self.old + 1 }
         ensures fused { FusesChange S.Store self.old self.new (Remove name.now) result }
     {
         self.make(BorrowedChange::Remove(name))
@@ -217,8 +201,6 @@ impl<S: FolderStore> FolderStore for FuseStore<S> {
 
     fn put_journal(&mut self, bytes: &[u8]) -> Result<(), StoreFault>
         ensures put { PutsJournal (fuse S.Store) self.old self.new bytes.now result }
-        ensures failures { CountsFailures (fuse S.Store).failures self.old self.new result }
-        ensures counted { fuse_writing_calls self.new ≡ fuse_writing_calls self.old + 1 }
         ensures fused { FusesJournal S.Store self.old self.new bytes.now result }
     {
         self.writing_calls.rise();

@@ -22,7 +22,7 @@ impl MemoryStore {
     ghost use Rattle.std.specs.Prelude.{◌≡◌, ◌+◌, ◌<◌, ◌≤◌, [], ◌∷◌, None, IfOk, IsErr, IsOk, IsTrue, IsFalse, OnOk, OnErr};
     ghost use Rattle.std.specs.FinMap.{empty};
     ghost use Rattle.par2_spec.specs.Changes.{is_applicable, places_taken};
-    ghost use Rattle.par2_spec.specs.Stores.{Contents, with_change};
+    ghost use Rattle.par2_spec.specs.Stores.{with_change};
     ghost use Rattle.par2_stores.specs.Memory.{memory_contents, memory_failures, memory_impossible, memory_writing_calls};
     ghost use Rattle.par2_files.specs.ChangeViews.{change_of};
 
@@ -46,10 +46,8 @@ impl MemoryStore {
 
     // Counts a failure for lack of memory, or of a call that can't be done, and returns the fault to report.
     fn fault(&mut self) -> StoreFault
-        ensures contents { memory_contents self.new ≡ memory_contents self.old }
-        ensures failures { memory_failures self.new ≡ memory_failures self.old + 1 }
-        ensures impossible { memory_impossible self.new ≡ memory_impossible self.old }
-        ensures writing_calls { memory_writing_calls self.new ≡ memory_writing_calls self.old }
+        ensures failures { self.new.failures.count ≡ self.old.failures.count + 1 }
+        ensures rest { self.new ≡ record self.old { failures = self.new.failures } }
     {
         self.failures.rise();
         StoreFault
@@ -58,9 +56,9 @@ impl MemoryStore {
     // Counts a failure of a call that can't be done, such as a read of a name without a file, and returns the fault.
     fn refuse(&mut self) -> StoreFault
         ensures contents { memory_contents self.new ≡ memory_contents self.old }
-        ensures failures { memory_failures self.new ≡ memory_failures self.old + 1 }
-        ensures impossible { memory_impossible self.new ≡ memory_impossible self.old + 1 }
-        ensures writing_calls { memory_writing_calls self.new ≡ memory_writing_calls self.old }
+        ensures failures { self.new.failures.count ≡ self.old.failures.count + 1 }
+        ensures impossible { self.new.impossible.count ≡ self.old.impossible.count + 1 }
+        ensures writing_calls { self.new.writing_calls ≡ self.old.writing_calls }
     {
         self.impossible.rise();
         self.fault()
@@ -69,11 +67,9 @@ impl MemoryStore {
     // For a write: copies the bytes, and reserves a place for the file if none is vacant. It reserves as many places as
     // there are files, so that a series of writes moves each file only a few times.
     fn make_place(&mut self, bytes: &[u8]) -> Result<Bytes>
-        // The contents and all counts stay.
-        ensures contents { memory_contents self.new ≡ memory_contents self.old }
-        ensures failures { memory_failures self.new ≡ memory_failures self.old }
-        ensures impossible { memory_impossible self.new ≡ memory_impossible self.old }
-        ensures writing_calls { memory_writing_calls self.new ≡ memory_writing_calls self.old }
+        // The files, the journal and all counts stay.
+        ensures files { self.new.folder.files ≡ self.old.folder.files }
+        ensures rest { self.new ≡ record self.old { folder = self.new.folder } }
         // It returns a copy of the bytes, and there is a place for a file.
         ensures copy { IfOk result (λ copy. copy ≡ bytes.now) }
         ensures place { OnOk result (0 < self.new.folder.vacant) }

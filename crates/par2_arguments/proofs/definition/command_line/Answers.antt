@@ -1,5 +1,4 @@
-use Rattle.par2_arguments.proofs.Common.{◌∙◌, ap, map, subst, sym, take, App, IsApp, app_with, shape_for, map_more}
-use Rattle.par2_arguments.proofs.Additions.{with_one_more}
+use Rattle.par2_arguments.proofs.Common.{◌∙◌, ap, fold, map, subst, sym, take, with_subcommand, App, IsApp, shape_for, start_app, fold-append, map_more}
 use Rattle.par2_arguments.proofs.definition.command_line.Goals as goal
 
 pub loop-name-init : goal.loop-name-init
@@ -9,5 +8,5 @@ pub loop-name-preserved : goal.loop-name-preserved
 loop-name-preserved c =
     let so_far = map shape_for (take c.loop-name.name-index c.args.subcommands.now) in
     let more = map_more shape_for c.args.subcommands.now c.loop-name.name-index _ c.loop-name-test.true in
-    subst (λ (app : App). IsApp c.in_ok-command.command app) (with_one_more so_far _ ∙ ap app_with (sym more))
-    (c.in_ok-command.ensures (app_with so_far) _ c.loop-name.invariant c.command_of.ensures)
+    subst (λ (app : App). IsApp c.in_ok-command.command app) (sym (fold-append with_subcommand start_app so_far _) ∙ ap (fold with_subcommand start_app) (sym more))
+    (c.in_ok-command.ensures (fold with_subcommand start_app so_far) _ c.loop-name.invariant c.command_of.ensures)

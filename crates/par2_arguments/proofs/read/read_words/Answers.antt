@@ -27,16 +27,16 @@ returns-in-Err-clause-arguments c = λ taken there.
 pub returns-in-Some-clause-command : goal.returns-in-Some-clause-command
 returns-in-Some-clause-command c =
     let is = met_so (goal.at.returns-in-Some-clause-command c).In-Some (matches_so (goal.at.returns-in-Some-clause-command c).In-Ok) in
-    IfOk-weaker c.named.result _ _ (λ d h. ap (option_and_then meaning) is ∙ h) c.named.ensures.command
+    IfOk-weaker c.named.result _ _ (λ d h. ap (option_and_then meaning) is ∙ h) c.named.ensures.0
 
 pub returns-in-Some-clause-arguments : goal.returns-in-Some-clause-arguments
 returns-in-Some-clause-arguments c = λ taken there.
     let is = met_so (goal.at.returns-in-Some-clause-arguments c).In-Some (matches_so (goal.at.returns-in-Some-clause-arguments c).In-Ok) in
-    IfErr-weaker c.named.result _ _ (λ e h. by_either h (λ memory. memory) (λ none. absurd (true≢false (sym (known _ _ is) ∙ ap is_some none)))) c.named.ensures.fault
+    IfErr-weaker c.named.result _ _ (λ e h. by_either h (λ memory. memory) (λ none. absurd (true≢false (sym (known _ _ is) ∙ ap is_some none)))) c.named.ensures.1
 
 pub returns-clause-arguments : goal.returns-clause-arguments
 returns-clause-arguments c = λ taken there.
     absurd (unmet c.in-Ok.matches (map string_bytes c.args.words.now) (matches_so (goal.at.returns-clause-arguments c).In-Ok) c.in-None.ensures.name there)
 
 pub returns-in-Some-clause-faultless : goal.returns-in-Some-clause-faultless
-returns-in-Some-clause-faultless c = IfOk-weaker c.named.result _ _ (λ d h. faultless_so (goal.at.returns-in-Some-clause-faultless c).In-Ok) c.named.ensures.command
+returns-in-Some-clause-faultless c = IfOk-weaker c.named.result _ _ (λ d h. faultless_so (goal.at.returns-in-Some-clause-faultless c).In-Ok) c.named.ensures.0

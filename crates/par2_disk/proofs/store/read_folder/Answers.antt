@@ -1,14 +1,14 @@
-use Rattle.par2_disk.proofs.Common.{◌∙◌, ◌≡◌, ◌<◌, ◌≤◌, length, get_or, Some, ap, subst, arith, entries, names, IsWrittenAs}
+use Rattle.par2_disk.proofs.Common.{◌∙◌, ◌≡◌, ◌<◌, ◌≤◌, length, get_or, Some, ap, subst, arith, entries, names}
 use Rattle.std.specs.FinMap as map_of
 use Rattle.par2_files.proofs.SortedFiles.{begins_empty, still_there, next_file, is_whole}
 use Rattle.par2_spec.specs.Stores.{Contents}
-use Rattle.par2_disk.proofs.Filling.{tried as tried_by}
+use Rattle.par2_disk.proofs.Filling.{IsWrittenAs, tried as tried_by}
 use Rattle.par2_disk.proofs.Stores.{reads_on}
 use Rattle.par2_disk.proofs.store.read_folder.Goals as goal
 
 pub loop-name-init : goal.loop-name-init
 loop-name-init g c = record {
-  reads = c.in_ok-names.ensures.reads;
+  reads = c.in_ok-names.ensures.names.reads;
   later = c.in_ok-names.ensures.failures.later;
   steady = c.in_ok-names.ensures.failures.steady;
   possible = λ _. c.in_ok-names.ensures.names.possible;
@@ -25,7 +25,7 @@ loop-name-preserved g c =
     subst (λ n. IsWrittenAs c.loop-name.folder c.apply-taken.new.self n c.into.result) c.copied.ensures
     (tried_by _ _ _ _ _ c.apply-taken.result c.apply-taken.ensures.refused c.apply-taken.ensures.unchanged c.apply-taken.ensures.folder) in
     record {
-      reads = reads_on so_far.reads c.in_ok-bytes.ensures.reads;
+      reads = reads_on so_far.reads c.in_ok-bytes.ensures.file.reads;
       later = omega (arith, so_far.later, c.in_ok-bytes.ensures.failures.later);
       steady = c.in_ok-bytes.ensures.failures.steady ∙ so_far.steady;
       possible = λ h.
@@ -52,7 +52,7 @@ returns-in_err-bytes-clause-possible g c h =
     c.in_err-bytes.ensures.file.possible (so_far.reads.honest h) (still_there _ _ _ _ _ files (so_far.listed h) c.loop-name-test.true c.name-item.is) ∙ so_far.possible h
 
 pub returns-in_err-bytes-clause-reads : goal.returns-in_err-bytes-clause-reads
-returns-in_err-bytes-clause-reads g c = reads_on c.loop-name.invariant.reads c.in_err-bytes.ensures.reads
+returns-in_err-bytes-clause-reads g c = reads_on c.loop-name.invariant.reads c.in_err-bytes.ensures.file.reads
 
 pub returns-clause-files : goal.returns-clause-files
 returns-clause-files g c h = is_whole _ _ c.loop-name.name-index (c.loop-name.invariant.files h) (subst (λ l. length l ≤ c.loop-name.name-index) (c.loop-name.invariant.listed h) c.loop-name-test.false)

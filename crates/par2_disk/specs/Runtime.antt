@@ -1,13 +1,41 @@
--- What a listing of a directory returns, by its entries.
-use Rattle.std.specs.Prelude.{◌≡◌, ◌⊎◌, ℕ, Bool, List, [], ◌++◌, Option, Some, None, option_to_list, Result, Ok, Err, IsTrue, IsFalse, nat_eq, codes}
-use Rattle.std.specs.Fs.{IsFile}
+-- How results of the runtime are read: errors, metadata, and the entries of a listing.
+use Rattle.std.specs.Prelude.{◌≡◌, ◌⊎◌, ℕ, Bool, List, [], ◌++◌, Option, Some, None, option_to_list, Result, Ok, Err, MatchResult, IsTrue, IsFalse, nat_eq, codes}
+use Rattle.std.specs.Fs.{metadata_len, file_type, IsFile}
 use Rattle.std.specs.IoError.{error_kind}
 use Rattle.std.specs.Iterator.{Drains, YieldsThen}
 use Rattle.std.specs.List.{FoldsTo, starts_with}
 use Rattle.std.specs.declared.fs.attrs.FileType.{FileType}
+use Rattle.std.specs.declared.fs.attrs.Metadata.{Metadata}
 use Rattle.std.specs.declared.io.Error.{Error}
-use Rattle.std.specs.declared.io.ErrorKind.TheVariants.{InvalidFilename}
+use Rattle.std.specs.declared.io.ErrorKind.TheVariants.{InvalidFilename, OutOfMemory}
 use Rattle.par2_spec.specs.Names.{is_name}
+use Rattle.par2_disk.specs.declared.directory.Found.{Found}
+use Rattle.par2_disk.specs.declared.directory.Found.TheVariants as found
+use Rattle.par2_disk.specs.declared.entry.Entry.{Ghosts as EntryOf}
+use Rattle.par2_disk.specs.declared.stamp.Stamp.{Stamp}
+use Rattle.par2_disk.specs.declared.store.ReadFault.{ReadFault}
+use Rattle.par2_disk.specs.declared.store.ReadFault.TheVariants.{Memory, Store}
+
+-- memory ran out
+abbrev pub IsOutOfMemory : Error → Type 0
+IsOutOfMemory error = error_kind error ≡ OutOfMemory
+
+-- `Memory` is reported exactly if memory ran out
+abbrev pub IsReportedAs : Error → ReadFault → Type 0
+IsReportedAs error Memory = IsOutOfMemory error
+IsReportedAs error Store = IsOutOfMemory error → ⊥
+
+-- what is found at a path by the runtime's result, where `IsMissing` says which errors mean that nothing is there
+abbrev pub IsFoundBy : {E : Type 0} → (E → Type 0) → Result Metadata E → Found → Type 0
+IsFoundBy IsMissing answer found.Nothing = MatchResult answer (λ _. ⊥) IsMissing
+IsFoundBy IsMissing answer (found.File size) =
+    MatchResult answer (λ metadata. IsFile (file_type metadata) × (size ≡ metadata_len metadata)) (λ _. ⊥)
+IsFoundBy IsMissing answer found.Other = MatchResult answer (λ metadata. IsFile (file_type metadata) → ⊥) (λ _. ⊥)
+
+-- which file is at a path, likewise: one of another size has another stamp. Nothing is promised of inodes and times
+abbrev pub IsStampedBy : {E : Type 0} → (E → Type 0) → Result Metadata E → Option Stamp → Type 0
+IsStampedBy IsMissing answer None = MatchResult answer (λ _. ⊥) IsMissing
+IsStampedBy IsMissing answer (Some stamp) = MatchResult answer (λ metadata. stamp.size ≡ metadata_len metadata) (λ _. ⊥)
 
 -- whether a file with this name belongs to the history
 abbrev pub is_of_history : List ℕ → Bool
@@ -23,16 +51,16 @@ CountsAs kind bytes None = IsFile kind → IsFalse (is_name bytes) × IsTrue (is
 abbrev pub IsMisnamed : FileType → List ℕ → Error → Type 0
 IsMisnamed kind bytes error = IsFile kind × IsFalse (is_name bytes) × IsFalse (is_of_history bytes) × (error_kind error ≡ InvalidFilename)
 
--- the results that the kind of an entry may have, and the bytes of its name
-module _ {E : Type 0} (kind_gives : E → Result FileType Error → Type 0) (entry_name : E → List ℕ) where
+module _ {E : Type 0} (entries : EntryOf E) where
   -- what an item of the listing counts as. An error, or an entry of unknown kind, counts as nothing
   abbrev pub IsCounted : Result E Error → Option (List ℕ) → Type 0
-  IsCounted (Ok entry) name = (kind : FileType) × kind_gives entry (Ok kind) × CountsAs kind (entry_name entry) name
+  IsCounted (Ok entry) name = (kind : FileType) × entries.kind_gives entry (Ok kind) × CountsAs kind (entries.entry_name entry) name
   IsCounted (Err _) name = ⊥
 
   -- the error of an item that fails: its own, that of its kind, or that its name can't be listed
   abbrev pub FailsBy : Result E Error → Error → Type 0
-  FailsBy (Ok entry) error = kind_gives entry (Err error) ⊎ ((kind : FileType) × kind_gives entry (Ok kind) × IsMisnamed kind (entry_name entry) error)
+  FailsBy (Ok entry) error = entries.kind_gives entry (Err error)
+      ⊎ ((kind : FileType) × entries.kind_gives entry (Ok kind) × IsMisnamed kind (entries.entry_name entry) error)
   FailsBy (Err e) error = error ≡ e
 
   -- `more` is `names` and the name that the item counts as, if any
