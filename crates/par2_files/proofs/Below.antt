@@ -1,5 +1,5 @@
 -- The files of a folder before a name, which changes from the name on leave as they are, and their message.
-use Rattle.par2_files.proofs.Common.{◌≡◌, ℕ, zero, suc, ◌<◌, ◌≤◌, Bool, true, false, cond, List, ◌∷◌, ◌++◌, length, take, Option, Some, None, refl, sym, ap, ◌∙◌, arith, is_lt, is_eq, eq_by_cmp, ord_min, Ordering, Less, Equal, Greater, nat_list_cmp_total, entries, same_map, entries-from_sorted, get-from_sorted, get-retain_keys, get-insert, get-remove, where_key, find-where_key, is_sorted-where_key, cases_lt, File, Folder, behind_length, bytes_of, name_cmp, IsSortedByName, folder_of, file_at, IsFileAt, IsGapFor, AreFolderFiles, is_below, folder_below, fingerprint_input, IsFrom, IsFront, by_true, effect, Change, Write, Replace, Rename, Remove, flat_map-append}
+use Rattle.par2_files.proofs.Common.{◌≡◌, ℕ, zero, suc, ◌<◌, ◌≤◌, Bool, true, false, cond, List, ◌∷◌, ◌++◌, length, take, Option, Some, None, refl, sym, ap, ◌∙◌, arith, is_lt, is_eq, eq_by_cmp, ord_min, Ordering, Less, Equal, Greater, nat_list_cmp_total, entries, same_map, entries-from_sorted, get-from_sorted, get-retain_keys, get-insert, get-remove, where_key, find-where_key, is_sorted-where_key, cases_lt, File, Folder, behind_length, bytes_of, name_cmp, IsSortedByName, folder_of, file_at, IsFileAt, IsGapFor, AreFolderFiles, is_below, folder_below, fingerprint_input, first_name, IsFront, by_true, effect, Change, Write, Replace, Rename, Remove, flat_map-append}
 use Rattle.std.specs.FinMap as map_of
 use Rattle.par2_files.proofs.SortedFiles.{same_names, rises, inverted, reversed_back}
 
@@ -96,7 +96,7 @@ module _ (name n : List ℕ) (folder : Folder) (h : is_below name n ≡ false) w
       ∙ elsewhere name n q None (map_of.get folder q) h ∙ sym (get_below name folder q))
 
 -- a change from the name on leaves the files before it
-pub effect_below : (name : List ℕ) (folder : Folder) (change : Change) → IsFrom name change → folder_below name (effect folder change) ≡ folder_below name folder
+pub effect_below : (name : List ℕ) (folder : Folder) (change : Change) → is_below name (first_name change) ≡ false → folder_below name (effect folder change) ≡ folder_below name folder
 unfolding effect
 effect_below name folder (Write n bytes) h = put_from name n folder h bytes
 effect_below name folder (Replace n bytes) h = put_from name n folder h bytes

@@ -1,7 +1,7 @@
 -- A snapshot's files, through searches and edits.
-use Rattle.par2_files.proofs.Common.{◌≡◌, ℕ, suc, ◌<◌, false, List, [], ◌∷◌, length, map, get_or, set, Some, None, is_some, Result, Ok, Err, IfOk, IfErr, IsTrue, sym, ap, subst, ◌∙◌, arith, insert, remove, IsSearchInRange, IsBinarySearchResult, Ordering, length-map, get_or-map, map-set, File, Folder, has, bytes_of, name_cmp, folder_of, file_at, IsFileAt, IsGapFor, IsFile, AreFolderFiles, BorrowedFile, file_of, common_steps}
+use Rattle.par2_files.proofs.Common.{AreFilesOf, IsSearched, ◌≡◌, ℕ, suc, ◌<◌, false, List, [], ◌∷◌, length, map, get_or, set, Some, None, is_some, Result, Ok, Err, IfOk, IfErr, IsTrue, sym, ap, subst, ◌∙◌, arith, insert, remove, IsSearchInRange, IsBinarySearchResult, Ordering, length-map, get_or-map, map-set, File, Folder, has, bytes_of, name_cmp, folder_of, file_at, IsFileAt, IsGapFor, IsFile, AreFolderFiles, BorrowedFile, file_of, common_steps}
 use Rattle.std.specs.FinMap as map_of
-use Rattle.par2_files.proofs.SortedFiles.{Makes, searched_folder, inserted, exchanged, removed, bytes_at}
+use Rattle.par2_files.proofs.SortedFiles.{searched_folder, inserted, exchanged, removed, bytes_at}
 
 -- ---- lists seen through a function
 
@@ -38,25 +38,25 @@ searched_through v order xs (Err at) in_range found =
 
 module _ (items : List BorrowedFile) (kept : AreFolderFiles (map file_of items)) (name : List ℕ) where
   pub searched_files : (r : Result ℕ ℕ) → IsSearchInRange r (length items) → IsBinarySearchResult (λ item. name_cmp (file_of item).0 name) items r
-      → record { found : IfOk r (IsFileAt (map file_of items) name); absent : IfErr r (IsGapFor (map file_of items) name); there : IfOk r (λ at. map_of.get (folder_of (map file_of items)) name ≡ Some (file_at (map file_of items) at).1); not_there : IfErr r (λ _. map_of.get (folder_of (map file_of items)) name ≡ None) }
+      → IsSearched (map file_of items) name r
   searched_files r in_range found =
       searched_folder (map file_of items) kept name r (rw length-map in_range) (searched_through file_of (λ (file : File). name_cmp file.0 name) items r in_range found)
 
   pub put_in_gap : (file : BorrowedFile) (at : ℕ) → file.name.now ≡ name → IsGapFor (map file_of items) name at → IsFile (name, file.bytes.now)
-      → Makes (map file_of (insert items at file)) (map_of.insert (folder_of (map file_of items)) name file.bytes.now)
+      → AreFilesOf (map file_of (insert items at file)) (map_of.insert (folder_of (map file_of items)) name file.bytes.now)
   put_in_gap file at same gap is =
       let folder = map_of.insert (folder_of (map file_of items)) name file.bytes.now in
-      subst (λ l. Makes l folder) (ap (λ n. insert (map file_of items) at (n, file.bytes.now)) (sym same) ∙ sym (map-insert file_of items at file))
+      subst (λ l. AreFilesOf l folder) (ap (λ n. insert (map file_of items) at (n, file.bytes.now)) (sym same) ∙ sym (map-insert file_of items at file))
       (inserted (map file_of items) kept name file.bytes.now at gap is)
 
   pub put_at : (file : BorrowedFile) (at : ℕ) → file.name.now ≡ name → IsFileAt (map file_of items) name at → IsFile (name, file.bytes.now)
-      → Makes (map file_of (set items at file)) (map_of.insert (folder_of (map file_of items)) name file.bytes.now)
+      → AreFilesOf (map file_of (set items at file)) (map_of.insert (folder_of (map file_of items)) name file.bytes.now)
   put_at file at same here is =
       let folder = map_of.insert (folder_of (map file_of items)) name file.bytes.now in
-      subst (λ l. Makes l folder) (ap (λ n. set (map file_of items) at (n, file.bytes.now)) (sym same) ∙ sym (map-set file_of items at file))
+      subst (λ l. AreFilesOf l folder) (ap (λ n. set (map file_of items) at (n, file.bytes.now)) (sym same) ∙ sym (map-set file_of items at file))
       (exchanged (map file_of items) kept name file.bytes.now at here is)
 
-  pub taken_from : (at : ℕ) → IsFileAt (map file_of items) name at → Makes (map file_of (remove items at)) (map_of.remove (folder_of (map file_of items)) name)
+  pub taken_from : (at : ℕ) → IsFileAt (map file_of items) name at → AreFilesOf (map file_of (remove items at)) (map_of.remove (folder_of (map file_of items)) name)
   taken_from at here = search (arith, map-remove, removed)
 
   pub bytes_taken : (at : ℕ) (file : BorrowedFile) → IsFileAt (map file_of items) name at → file ≡ get_or items at file → file.bytes.now ≡ bytes_of (folder_of (map file_of items)) name

@@ -1,5 +1,5 @@
 -- Files sorted by their names: what a search finds in them, and what an edit at a position does to their folder.
-use Rattle.par2_files.proofs.Common.{◌≡◌, ℕ, zero, suc, ◌+◌, ◌<◌, ◌≤◌, Bool, true, false, cond, not, List, [], ◌∷◌, ◌++◌, length, take, drop, get_or, set, is_some, Option, Some, None, Result, Ok, Err, IfOk, IfErr, IsTrue, T, refl, sym, ap, subst, ◌∙◌, arith, insert, remove, AllByRecursion, IsSearchInRange, IsBinarySearchResult, IsNonDecreasingBy, ordering_index, ordering_reverse, eq_by_cmp, is_lt, is_eq, Ordering, Less, Equal, Greater, and_parts, nat_list_cmp_total, entries, is_sorted, find, put, IsAntisymmetric, slice_cmp-IsAntisymmetric, nat_cmp-IsAntisymmetric, same_entries_map, same_map, entries_sorted, entries-from_sorted, get-from_sorted, entries-insert, get-remove, get-empty, where_key, find-where_key, is_sorted-where_key, length-map, get_or-map, length-take-le, get_or-take, take_all, drop_all, take_more, get_or_default, All-from_recursion, recursion_from_All, All-set, File, Folder, IsFolder, has, names, name_cmp, IsSortedByName, folder_of, file_at, IsFileAt, IsGapFor, IsFile, AreFolderFiles, by_true, is_true, cond-not, common_steps}
+use Rattle.par2_files.proofs.Common.{AreFilesOf, IsSearched, ◌≡◌, ℕ, zero, suc, ◌+◌, ◌<◌, ◌≤◌, Bool, true, false, cond, not, List, [], ◌∷◌, ◌++◌, length, take, drop, get_or, set, is_some, Option, Some, None, Result, Ok, Err, IfOk, IfErr, IsTrue, T, refl, sym, ap, subst, ◌∙◌, arith, insert, remove, AllByRecursion, IsSearchInRange, IsBinarySearchResult, IsNonDecreasingBy, ordering_index, ordering_reverse, eq_by_cmp, is_lt, is_eq, Ordering, Less, Equal, Greater, and_parts, nat_list_cmp_total, entries, is_sorted, find, put, IsAntisymmetric, slice_cmp-IsAntisymmetric, nat_cmp-IsAntisymmetric, same_entries_map, same_map, entries_sorted, entries-from_sorted, get-from_sorted, entries-insert, get-remove, get-empty, where_key, find-where_key, is_sorted-where_key, length-map, get_or-map, length-take-le, get_or-take, take_all, drop_all, take_more, get_or_default, All-from_recursion, recursion_from_All, All-set, File, Folder, IsFolder, has, names, name_cmp, IsSortedByName, folder_of, file_at, IsFileAt, IsGapFor, IsFile, AreFolderFiles, by_true, is_true, cond-not, common_steps}
 use Rattle.std.specs.Cmp.{tied_itself, alike_right, eq_by_cmp_equiv}
 use Rattle.std.specs.FinMap as map_of
 use Rattle.std.proofs.lemmas.List.Sorted.{searchable_from_sorted}
@@ -135,28 +135,23 @@ is_made_of files folder e =
 pub bytes_at : (files : List File) → AreFolderFiles files → (name : List ℕ) (at : ℕ) → IsFileAt files name at → map_of.get (folder_of files) name ≡ Some (file_at files at).1
 bytes_at files h name at here = get-from_sorted name_cmp files name (by_true h.sorted) ∙ find_at files h.sorted name at here
 
--- the edited files satisfy the invariant, and are this folder
-pub record Makes (files : List File) (folder : Folder) : Type 0 where
-  pub kept : AreFolderFiles files
-  pub is : folder_of files ≡ folder
-
-pub inserted : (files : List File) → AreFolderFiles files → (name bytes : List ℕ) (at : ℕ) → IsGapFor files name at → IsFile (name, bytes) → Makes (insert files at (name, bytes)) (map_of.insert (folder_of files) name bytes)
+pub inserted : (files : List File) → AreFolderFiles files → (name bytes : List ℕ) (at : ℕ) → IsGapFor files name at → IsFile (name, bytes) → AreFilesOf (insert files at (name, bytes)) (map_of.insert (folder_of files) name bytes)
 inserted files h name bytes at gap is =
     let made = is_made_of _ _ (entries-insert nat_list_cmp_total (folder_of files) name bytes ∙ ap (put name_cmp name bytes) (files_of files h.sorted) ∙ put_in_gap files name bytes at gap) in
-    record { kept = record { sorted = made.sorted; each = each_insert files at (name, bytes) h.each is }; is = made.folder }
+    record { kept = record { sorted = made.sorted; each = each_insert files at (name, bytes) h.each is }; folder = made.folder }
 
-pub exchanged : (files : List File) → AreFolderFiles files → (name bytes : List ℕ) (at : ℕ) → IsFileAt files name at → IsFile (name, bytes) → Makes (set files at (name, bytes)) (map_of.insert (folder_of files) name bytes)
+pub exchanged : (files : List File) → AreFolderFiles files → (name bytes : List ℕ) (at : ℕ) → IsFileAt files name at → IsFile (name, bytes) → AreFilesOf (set files at (name, bytes)) (map_of.insert (folder_of files) name bytes)
 exchanged files h name bytes at here is =
     let made = is_made_of _ _ (entries-insert nat_list_cmp_total (folder_of files) name bytes ∙ ap (put name_cmp name bytes) (files_of files h.sorted) ∙ put_at files h.sorted name bytes at here) in
-    record { kept = record { sorted = made.sorted; each = recursion_from_All IsFile (set files at (name, bytes)) (All-set IsFile files at (name, bytes) is (All-from_recursion IsFile files h.each)) }; is = made.folder }
+    record { kept = record { sorted = made.sorted; each = recursion_from_All IsFile (set files at (name, bytes)) (All-set IsFile files at (name, bytes) is (All-from_recursion IsFile files h.each)) }; folder = made.folder }
 
-pub removed : (files : List File) → AreFolderFiles files → (name : List ℕ) (at : ℕ) → IsFileAt files name at → Makes (remove files at) (map_of.remove (folder_of files) name)
+pub removed : (files : List File) → AreFolderFiles files → (name : List ℕ) (at : ℕ) → IsFileAt files name at → AreFilesOf (remove files at) (map_of.remove (folder_of files) name)
 removed files h name at here =
     let same = others_at files h.sorted name at here in
     let sorted = subst (λ l. T (is_sorted name_cmp l)) same (is_sorted-where_key name_cmp (other name) files (by_true h.sorted)) in
     record {
       kept = record { sorted = is_true sorted; each = each_remove files at h.each };
-      is = same_map nat_list_cmp_total same_names _ _ (λ q.
+      folder = same_map nat_list_cmp_total same_names _ _ (λ q.
           get-from_sorted name_cmp _ q sorted ∙ ap (find name_cmp q) (sym same)
           ∙ find-where_key name_cmp (other name) q (λ x t. ap (λ o. not (is_eq o)) (sym (alike_right nat_list_cmp_total q x name t))) files
           ∙ cond-not (eq_by_cmp name_cmp name q) (find {X = List ℕ} name_cmp q files) None
@@ -166,7 +161,7 @@ removed files h name at here =
 
 -- a binary search returns the position of the file, or where it would be inserted, and so what the folder has there
 pub searched_folder : (files : List File) → AreFolderFiles files → (name : List ℕ) (r : Result ℕ ℕ) → IsSearchInRange r (length files) → IsBinarySearchResult (λ file. name_cmp file.0 name) files r
-    → record { found : IfOk r (IsFileAt files name); absent : IfErr r (IsGapFor files name); there : IfOk r (λ at. map_of.get (folder_of files) name ≡ Some (file_at files at).1); not_there : IfErr r (λ _. map_of.get (folder_of files) name ≡ None) }
+    → IsSearched files name r
 searched_folder files h name (Ok at) in_range equal = grind (arith, same_names, bytes_at)
 searched_folder files h name (Err at) in_range parted =
     let places = parted (comparisons_rise files h.sorted name) in

@@ -26,7 +26,3 @@ HaveAbsorbed states buffers = ReachEach states [] buffers
 -- state k, finished ones first, has absorbed message k or will
 abbrev pub AreTo : Absorbing → List (List ℕ) → Type 0
 AreTo absorbing buffers = ReachEach absorbing.states.items absorbing.pendings.items buffers
-
--- `AreTo` with the messages first, so that it applies to a result
-abbrev pub AllReach : List (List ℕ) → Absorbing → Type 0
-AllReach buffers absorbing = AreTo absorbing buffers

@@ -30,7 +30,3 @@ first_name (Write name bytes) = name
 first_name (Replace name bytes) = name
 first_name (Rename from to) = ord_min name_cmp from to
 first_name (Remove name) = name
-
--- the change touches no lesser name
-abbrev pub IsFrom : List ℕ → Change → Type 0
-IsFrom name change = is_below name (first_name change) ≡ false

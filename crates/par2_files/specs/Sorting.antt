@@ -1,5 +1,6 @@
 -- A folder as a vector of files, sorted by the bytes of their names.
-use Rattle.std.specs.Prelude.{◌≡◌, ℕ, ◌<◌, ◌≤◌, ◌^◌, List, [], length, slice_index_or, IsTrue}
+use Rattle.std.specs.Prelude.{◌≡◌, ℕ, ◌<◌, ◌≤◌, ◌^◌, List, [], length, slice_index_or, IsTrue, Some, None, Result, IfOk, IfErr}
+use Rattle.std.specs.FinMap as map_of
 use Rattle.std.specs.FinMap.{from_sorted, is_sorted}
 use Rattle.std.specs.List.{AllByRecursion}
 use Rattle.std.specs.Ordering.{nat_cmp}
@@ -40,7 +41,19 @@ pub record IsGapFor (files : List File) (name : List ℕ) (i : ℕ) : Type 0 whe
 abbrev pub IsFile : File → Type 0
 IsFile file = IsTrue (is_name file.0) × (length file.1 < 2 ^ 64)
 
+-- a search finds the file that has the name, or where it would be inserted
+pub record IsSearched (files : List File) (name : List ℕ) (result : Result ℕ ℕ) : Type 0 where
+  pub found : IfOk result (IsFileAt files name)
+  pub absent : IfErr result (IsGapFor files name)
+  pub there : IfOk result (λ at. map_of.get (folder_of files) name ≡ Some (file_at files at).1)
+  pub not_there : IfErr result (λ _. map_of.get (folder_of files) name ≡ None)
+
 -- the invariant of a folder's files: sorted by name, and each valid
 pub record AreFolderFiles (files : List File) : Type 0 where
   pub sorted : IsSortedByName files
   pub each : AllByRecursion IsFile files
+
+-- these are the files of this folder
+pub record AreFilesOf (files : List File) (whole : Folder) : Type 0 where
+  pub kept : AreFolderFiles files
+  pub folder : folder_of files ≡ whole

@@ -1,8 +1,8 @@
 //! A flat folder in memory: a vector of files that is sorted by name. `Folder::apply` finds the position of a name by
 //! `search` and edits the vector there by `insert_at`, `remove_at` or `exchange_at`.
-ghost use Rattle.std.specs.FinMap as map_of;
-ghost use Rattle.std.specs.Prelude.{◌≡◌, ℕ, ◌+◌, ◌<◌, List, IfOk, IfErr, Some, None, vec_len, vec_capacity};
-ghost use Rattle.par2_files.specs.Sorting.{IsFileAt, IsGapFor, AreFolderFiles, folder_of, file_at};
+ghost use Rattle.std.specs.FinMap.{get, insert, remove};
+ghost use Rattle.std.specs.Prelude.{◌≡◌, ℕ, ◌+◌, ◌<◌, List, Some, None, vec_len, vec_capacity};
+ghost use Rattle.par2_files.specs.Sorting.{AreFilesOf, AreFolderFiles, IsFileAt, IsGapFor, IsSearched, folder_of};
 
 use crate::checkpoints::Checkpoints;
 use crate::snapshot::{Snapshot, borrowed};
@@ -45,8 +45,8 @@ impl Folder {
     ghost use Rattle.par2_spec.specs.Folders.{bytes_of, has, names, fingerprint, IsFolder};
     ghost use Rattle.par2_spec.specs.Changes.{Rename, change_refusal, state_after, inverse, takes_all, state_after_all, way_back};
     ghost use Rattle.par2_files.specs.ChangeViews.{change_of};
-    ghost use Rattle.par2_files.specs.Sorting.{AreFolderFiles};
-    ghost use Rattle.par2_files.specs.Snapshots.{files_in, folder_in};
+    ghost use Rattle.par2_files.specs.Sorting.{AreFilesOf};
+    ghost use Rattle.par2_files.specs.Snapshots.{files_in};
 
     /// The empty folder. It has no vacant places.
     #[tactic(auto, using(crate::proofs::SortedFiles::no_files))]
@@ -131,8 +131,7 @@ impl Folder {
 
     // Borrows all files, so that the folders after planned changes can be fingerprinted without changing this one.
     pub(crate) fn snapshot(&self) -> Result<Snapshot<'_>>
-        ensures kept { IfOk result (λ snapshot. AreFolderFiles (files_in snapshot)) }
-        ensures folder { IfOk result (λ snapshot. folder_in snapshot ≡ self.now.files) }
+        ensures { IfOk result (λ snapshot. AreFilesOf (files_in snapshot) self.now.files) }
     {
         let files = self.files.iter().map(borrowed);
         let files = files.collect(*self.files.allocator())?;
@@ -231,11 +230,7 @@ impl Folder {
 // Ok with the position of the file with this name, or Err with the position where it would be inserted.
 fn search(files: &[(Name, Bytes)], name: &Name) -> Result<usize, usize>
     requires { AreFolderFiles files.now }
-    ensures found { IfOk result (IsFileAt files.now name.now) }
-    ensures absent { IfErr result (IsGapFor files.now name.now) }
-    ensures there { IfOk result (λ at. map_of.get (folder_of files.now) name.now
-        ≡ Some (file_at files.now at).1) }
-    ensures not_there { IfErr result (λ _. map_of.get (folder_of files.now) name.now ≡ None) }
+    ensures { IsSearched files.now name.now result }
 {
     files.binary_search_by(|file| file.0.cmp(name))
 }
@@ -246,10 +241,8 @@ fn insert_at(files: &mut Vec<(Name, Bytes)>, at: usize, name: Name, bytes: Bytes
     requires kept { AreFolderFiles files.old.items }
     requires gap { IsGapFor files.old.items name at }
     requires room { vec_len files.old < vec_capacity files.old }
-    // The files stay sorted, and the folder has the new file.
-    ensures kept { AreFolderFiles files.new.items }
-    ensures folder { folder_of files.new.items
-        ≡ map_of.insert (folder_of files.old.items) name bytes }
+    // The folder has the new file.
+    ensures files { AreFilesOf files.new.items (insert (folder_of files.old.items) name bytes) }
     // It takes one place and doesn't allocate.
     ensures len { vec_len files.new ≡ vec_len files.old + 1 }
     ensures capacity { vec_capacity files.new ≡ vec_capacity files.old }
@@ -267,13 +260,11 @@ fn remove_at(files: &mut Vec<(Name, Bytes)>, at: usize, name: &Name) -> Bytes
     // The file with the name is at the position.
     requires kept { AreFolderFiles files.old.items }
     requires here { IsFileAt files.old.items name.now at }
-    ensures bytes { map_of.get (folder_of files.old.items) name.now ≡ Some result }
-    // The files stay sorted, without this one; a name that was absent stays absent.
-    ensures kept { AreFolderFiles files.new.items }
-    ensures folder { folder_of files.new.items
-        ≡ map_of.remove (folder_of files.old.items) name.now }
-    ensures absent { (q : List ℕ) → map_of.get (folder_of files.old.items) q ≡ None
-        → map_of.get (folder_of files.new.items) q ≡ None }
+    ensures bytes { get (folder_of files.old.items) name.now ≡ Some result }
+    // The folder is without this file; a name that was absent stays absent.
+    ensures files { AreFilesOf files.new.items (remove (folder_of files.old.items) name.now) }
+    ensures absent { (q : List ℕ) → get (folder_of files.old.items) q ≡ None
+        → get (folder_of files.new.items) q ≡ None }
     // Its place becomes vacant.
     ensures len { vec_len files.new + 1 ≡ vec_len files.old }
     ensures capacity { vec_capacity files.new ≡ vec_capacity files.old }
@@ -287,10 +278,9 @@ fn exchange_at(files: &mut Vec<(Name, Bytes)>, at: usize, name: &Name, bytes: &m
     requires kept { AreFolderFiles files.old.items }
     requires here { IsFileAt files.old.items name.now at }
     // The caller gets the old bytes, and the file has the caller's.
-    ensures bytes { map_of.get (folder_of files.old.items) name.now ≡ Some bytes.new }
-    ensures kept { AreFolderFiles files.new.items }
-    ensures folder { folder_of files.new.items
-        ≡ map_of.insert (folder_of files.old.items) name.now bytes.old }
+    ensures bytes { get (folder_of files.old.items) name.now ≡ Some bytes.new }
+    ensures files { let folder = folder_of files.old.items in
+        AreFilesOf files.new.items (insert folder name.now bytes.old) }
     // The number of files and the capacity don't change.
     ensures len { vec_len files.new ≡ vec_len files.old }
     ensures capacity { vec_capacity files.new ≡ vec_capacity files.old }

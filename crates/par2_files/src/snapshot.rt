@@ -1,12 +1,12 @@
 //! Borrowed files of a folder, to which changes are applied without changing the folder, and splits among names.
 //! `walk` applies the planned changes one by one, and `pending_between` returns an MD5 state with the files that it is to
 //! absorb next.
-ghost use Rattle.std.specs.FinMap as map_of;
-ghost use Rattle.std.specs.Prelude.{◌≡◌, map, Some, None, IfOk, IfErr, OnOk, IsTrue, ◌++◌, ◌∷◌, []};
+ghost use Rattle.std.specs.FinMap.{insert, remove};
+ghost use Rattle.std.specs.Prelude.{◌≡◌, map, IfOk, OnOk, IsTrue, ◌++◌, ◌∷◌, []};
 ghost use Rattle.par2_spec.specs.Folders.{has, bytes_of};
 ghost use Rattle.par2_spec.specs.Changes.{is_applicable, effect};
 ghost use Rattle.par2_files.specs.AbsorbedStates.{AbsorbsTo};
-ghost use Rattle.par2_files.specs.Sorting.{IsFileAt, IsGapFor, AreFolderFiles, folder_of, file_at};
+ghost use Rattle.par2_files.specs.Sorting.{AreFilesOf, AreFolderFiles, IsSearched};
 ghost use Rattle.par2_files.specs.ChangeViews.{change_of};
 ghost use Rattle.par2_files.specs.Below.{IsFront, fingerprint_input};
 ghost use Rattle.par2_files.specs.Snapshots.{file_of, files_in, folder_in};
@@ -45,12 +45,7 @@ pub fn borrowed(file: &(Name, Bytes)) -> BorrowedFile<'_>
 // Ok with the position of the file with this name, or Err with the position where it would be inserted.
 fn search_borrowed(files: &[BorrowedFile], name: &Name) -> Result<usize, usize>
     requires { AreFolderFiles (map file_of files.now) }
-    ensures found { IfOk result (IsFileAt (map file_of files.now) name.now) }
-    ensures absent { IfErr result (IsGapFor (map file_of files.now) name.now) }
-    ensures there { let files = map file_of files.now in
-        IfOk result (λ at. map_of.get (folder_of files) name.now ≡ Some (file_at files at).1) }
-    ensures not_there { let files = map file_of files.now in
-        IfErr result (λ _. map_of.get (folder_of files) name.now ≡ None) }
+    ensures { IsSearched (map file_of files.now) name.now result }
 {
     files.binary_search_by(|file| file.name.cmp(name))
 }
@@ -59,9 +54,8 @@ impl<'a> Snapshot<'a> {
     // Inserts the file, or replaces the one that has its name.
     fn insert(&mut self, name: &'a Name, bytes: &'a Bytes) -> Result<()>
         requires { AreFolderFiles (files_in self.old) }
-        ensures kept { OnOk result (AreFolderFiles (files_in self.new)) }
-        ensures folder { OnOk result
-            (folder_in self.new ≡ map_of.insert (folder_in self.old) name.now bytes.now) }
+        ensures { let folder = insert (folder_in self.old) name.now bytes.now in
+            OnOk result (AreFilesOf (files_in self.new) folder) }
     {
         // For the prover: the name is valid, and the length of the bytes fits.
         let (_bytes, _slice) = (name.as_str(), bytes.as_slice());
@@ -78,8 +72,7 @@ impl<'a> Snapshot<'a> {
         requires kept { AreFolderFiles (files_in self.old) }
         requires there { IsTrue (has (folder_in self.old) name.now) }
         ensures bytes { result.now ≡ bytes_of (folder_in self.old) name.now }
-        ensures kept { AreFolderFiles (files_in self.new) }
-        ensures folder { folder_in self.new ≡ map_of.remove (folder_in self.old) name.now }
+        ensures files { AreFilesOf (files_in self.new) (remove (folder_in self.old) name.now) }
     {
         match search_borrowed(&self.files, name) {
             Ok(at) => self.files.remove(at).bytes,
@@ -92,9 +85,8 @@ impl<'a> Snapshot<'a> {
     pub fn apply(&mut self, change: &'a Change) -> Result<()>
         requires kept { AreFolderFiles (files_in self.old) }
         requires applicable { IsTrue (is_applicable (folder_in self.old) (change_of change.now)) }
-        ensures kept { OnOk result (AreFolderFiles (files_in self.new)) }
-        ensures folder { OnOk result
-            (folder_in self.new ≡ effect (folder_in self.old) (change_of change.now)) }
+        ensures { let folder = effect (folder_in self.old) (change_of change.now) in
+            OnOk result (AreFilesOf (files_in self.new) folder) }
     {
         match change {
             Change::Write(name, bytes) => self.insert(name, bytes),

@@ -5,7 +5,7 @@
 //! split serves a whole group. `fingerprints` goes from split to split by `absorbing_before`, and takes the digests of
 //! all states at the end.
 ghost use Rattle.std.specs.Prelude.{◌≡◌, ◌≤◌, ◌++◌, ◌∷◌, [], ℕ, List, length, IfOk, OnOk, map, IsTrue};
-ghost use Rattle.par2_files.specs.AbsorbedStates.{AreTo, HaveAbsorbed, AllReach, AbsorbsTo};
+ghost use Rattle.par2_files.specs.AbsorbedStates.{AreTo, HaveAbsorbed, AbsorbsTo};
 ghost use Rattle.md5.specs.Md5.{md5};
 ghost use Rattle.par2_md5_lanes.specs.Messages.{HasAbsorbed};
 ghost use Rattle.par2_md5_lanes.specs.Buffers.{buffers_of};
@@ -130,7 +130,7 @@ fn absorbing_before<'a>(
     requires applicable { IsTrue (are_applicable folder.now.files (map change_of changes.now)) }
     requires absorbed { HaveAbsorbed states.now (buffers_by from folder.now.files changes.now) }
     ensures few { IfOk result (λ absorbing. length absorbing.pendings.items ≤ 16) }
-    ensures buffers { IfOk result (AllReach (buffers_by to.entry folder.now.files changes.now)) }
+    ensures states { IfOk result (λ x. AreTo x (buffers_by to.entry folder.now.files changes.now)) }
 {
     let mut snapshot = folder.snapshot()?;
     let mut absorbing = Absorbing::new(alloc);
@@ -159,7 +159,7 @@ fn absorbing_along<'a>(
     requires checkpoints { AreCheckpointsOf folder.now.files checkpoints.now }
     requires applicable { IsTrue (are_applicable folder.now.files (map change_of changes.now)) }
     ensures few { IfOk result (λ absorbing. length absorbing.pendings.items ≤ 16) }
-    ensures buffers { IfOk result (AllReach (buffers_by End folder.now.files changes.now)) }
+    ensures buffers { IfOk result (λ x. AreTo x (buffers_by End folder.now.files changes.now)) }
 {
     let names = split_names(alloc, changes)?;
     let (mut split, state) = checkpoints.start(changes);

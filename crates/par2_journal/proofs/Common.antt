@@ -14,7 +14,7 @@ pub use Rattle.std.specs.declared.alloc.Global.{Global}
 pub use Rattle.par2_files.specs.ChangeViews.{change_of}
 pub use Rattle.par2_journal.specs.Ahead.{IsAhead, next_changes}
 pub use Rattle.par2_journal.specs.Along.{AreAlong, ArePrintsAlong, Prints, prints_of}
-pub use Rattle.par2_journal.specs.Opening.{AnswersOpening, AnswersWhere, IsReportedWhere, OpensAsIs, go_through, session_after_way, session_at}
+pub use Rattle.par2_journal.specs.Opening.{AnswersOpening, AnswersWhere, IsReportedWhere, OpensAsIs, go_through, session_at}
 pub use Rattle.par2_journal.specs.Ready.{CanBe, Changing, Fits, HasPrintsOf, IsKindOf, IsReady, Kind, Ready, Redoing, Undoing, after_commit, changes_by_kind, next_of}
 pub use Rattle.par2_journal.specs.Sessions.{kept_session}
 pub use Rattle.par2_journal.specs.Spelling.{Add, AreSpelled, HasNext, Replace, SpellsAction, SpellsReady, SpellsHistoryStep, SpellsWhere, HistoryStep, entries_with, halfway_with, settled_with, history_step_of}

@@ -1,12 +1,12 @@
 -- Results of opening a folder with a journal.
-use Rattle.std.specs.Prelude.{◌≡◌, ◌≤◌, ◌⊎◌, ℕ, Bool, List, ◌-◌, ◌∷◌, length, take, drop, reverse, position, Option, None, true, Result, Ok, Err, IfOk, IfErr, OnOk, IsTrue, IsFalse, MatchResult, Some, Vec}
+use Rattle.std.specs.Prelude.{◌≡◌, ◌≤◌, ◌⊎◌, ℕ, Bool, List, ◌∷◌, length, take, drop, reverse, position, Option, None, true, Result, Ok, Err, IfOk, IfErr, OnOk, IsTrue, IsFalse, MatchResult, Some, Vec}
 use Rattle.std.specs.declared.alloc.Global.{Global}
 use Rattle.std.specs.Str.{bytes_eq}
 use Rattle.par2_spec.specs.Folders.{Folder, fingerprint}
-use Rattle.par2_spec.specs.Changes.{Change, FolderState, effects}
+use Rattle.par2_spec.specs.Changes.{Change, FolderState}
 use Rattle.par2_spec.specs.Sessions.{Session, KeptSession, session_of_kept}
 use Rattle.par2_spec.specs.Opening as defined
-use Rattle.par2_spec.specs.Opening.{is_valid, leads_through}
+use Rattle.par2_spec.specs.Opening.{leads_through}
 use Rattle.par2_spec.specs.declared.JournalFault.{JournalFault}
 use Rattle.par2_spec.specs.declared.JournalFault.TheVariants.{FolderChanged, JournalInvalid, Memory}
 use Rattle.par2_journal_format.specs.Reading.{IsSealed}
@@ -19,14 +19,6 @@ use Rattle.par2_journal.specs.declared.taking_back.Halfway.{Halfway}
 -- the session with these entries, of which the first n are undos, the oldest first
 abbrev pub session_at : Folder → ℕ → List (List Change) → Session
 session_at folder n entries = record { folder = folder; undos = reverse (take n entries); redos = drop n entries }
-
--- the session with these entries on the folder that changes leave
-abbrev pub session_after_way : Folder → List given.Change → ℕ → List (List Change) → Session
-session_after_way folder way n entries = session_at (effects folder (changes_in way)) n entries
-
--- whether a session on the folder can have these entries
-abbrev pub are_valid : Folder → ℕ → List (List Change) → Bool
-are_valid folder n entries = is_valid (session_at folder n entries)
 
 -- whether changes apply and lead through folders with these fingerprints
 abbrev pub go_through : Folder → List given.Change → List (List ℕ) → Bool
@@ -58,10 +50,6 @@ pub record LeadBack (folder : Folder) (print : List ℕ) (prints : List (List �
   pub place : place_among folder print prints ≡ Some (length back.items)
   pub list : back.items ≡ reverse (take (length back.items) (print ∷ prints))
   pub within : length back.items ≤ length prints
-
--- the last n changes
-abbrev pub last_changes : ℕ → List Change → List Change
-last_changes n changes = drop (length changes - n) changes
 
 -- why there are no fingerprints to go back by: the folder's isn't among them, or memory ran out
 abbrev pub HasNoPlace : Folder → List ℕ → List (List ℕ) → JournalFault → Type 0

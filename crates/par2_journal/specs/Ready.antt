@@ -7,7 +7,7 @@ use Rattle.par2_spec.specs.Changes.{Change, takes_all}
 use Rattle.par2_spec.specs.Commands.{Action, Do, Undo, Redo}
 use Rattle.par2_spec.specs.Sessions.{KeptSession, session_of_kept, session_after, changes_requested, kept_done, kept_undone, kept_redone}
 use Rattle.par2_spec.specs.Journals.{Journal}
-use Rattle.par2_spec.specs.Opening.{JournalPair, halfway_where, settled_journal}
+use Rattle.par2_spec.specs.Opening.{settled_journal}
 use Rattle.par2_spec.specs.Output.{Step, step_of}
 use Rattle.par2_spec.specs.declared.Version.TheVariants.{Two}
 use Rattle.par2_journal.specs.Along.{Prints, ArePrintsAlong, prints_code}
@@ -59,13 +59,6 @@ after_commit Redoing s = kept_redone s (next_of s.redos)
 -- the settled journal of a session
 abbrev pub kept_journal : KeptSession → Journal
 kept_journal s = settled_journal Two (session_of_kept s)
-
--- both journals of an action of this kind: the one while its changes are made, and the one of the session afterwards
-abbrev pub journals_for : Kind → KeptSession → JournalPair
-journals_for kind s = record {
-  before = halfway_where Two (session_of_kept s) (changes_by_kind kind s);
-  after = kept_journal (after_commit kind s);
-}
 
 -- the action is prepared as its own kind
 abbrev pub IsKindOf : Action → Kind → Type 0

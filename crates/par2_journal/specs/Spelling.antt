@@ -5,11 +5,11 @@ use Rattle.par2_spec.specs.Changes.{Change, FolderState, effects, folders_after,
 use Rattle.par2_spec.specs.Commands.{Action}
 use Rattle.par2_spec.specs.Folders.{fingerprint}
 use Rattle.par2_spec.specs.Journals.{Journal, Spells}
-use Rattle.par2_spec.specs.Opening.{JournalPair, journals_of}
+use Rattle.par2_spec.specs.Opening.{JournalPair, halfway_where, journals_of}
 use Rattle.par2_spec.specs.Sessions.{KeptSession, OnlyGrew, session_of_kept}
 use Rattle.par2_spec.specs.declared.Version.TheVariants.{Two}
 use Rattle.par2_journal_format.specs.Fronts.{Begins, with_halfway}
-use Rattle.par2_journal.specs.Ready.{Kind, Changing, Undoing, Redoing, Ready, IsReady, changes_by_kind, journals_for}
+use Rattle.par2_journal.specs.Ready.{Changing, IsReady, Kind, Ready, Redoing, Undoing, after_commit, changes_by_kind, kept_journal}
 use Rattle.par2_journal.specs.declared.spelling.Journals.{Journals}
 
 -- bytes that spell the journal, or neither bytes nor journal
@@ -23,9 +23,11 @@ SpellsWhere (Some bytes) (Some j) = Spells bytes.items j
 abbrev pub AreSpelled : Journals → JournalPair → Type 0
 AreSpelled journals pair = SpellsWhere journals.halfway pair.before × Spells journals.after.items pair.after
 
--- the bytes spell both journals of an action of this kind on the session
+-- the bytes spell both journals of an action of this kind on the session: the one while its changes are made, and the
+-- one of the session afterwards
 abbrev pub SpellsReady : Kind → KeptSession → Journals → Type 0
-SpellsReady kind s journals = AreSpelled journals (journals_for kind s)
+SpellsReady kind s journals =
+    AreSpelled journals (record { before = halfway_where Two (session_of_kept s) (changes_by_kind kind s); after = kept_journal (after_commit kind s) })
 
 -- the bytes spell both journals of any action that was prepared so on an earlier session with the same folder and
 -- history

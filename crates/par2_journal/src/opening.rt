@@ -9,7 +9,7 @@ ghost use Rattle.par2_spec.specs.declared.JournalFault.TheVariants.{JournalInval
 ghost use Rattle.par2_journal_format.specs.Reading.{IsSealed};
 ghost use Rattle.par2_journal_format.specs.Untested.{AreCounted, change_count};
 ghost use Rattle.par2_journal_format.specs.JournalViews.{changes_in, journal_of};
-ghost use Rattle.par2_journal.specs.Opening.{AnswersOpening, AnswersTest, AnswersWhere, IsReportedWhere, OpensAsIs, are_valid, has_print, session_at};
+ghost use Rattle.par2_journal.specs.Opening.{AnswersOpening, AnswersTest, AnswersWhere, IsReportedWhere, OpensAsIs, has_print, session_at};
 ghost use Rattle.par2_journal.specs.Walks.{EntriesWalk};
 
 use crate::taking_back::{Halfway, open_halfway};
@@ -139,7 +139,7 @@ fn can_walk(alloc: Global, folder: &Folder, entries: &[&Changes]) -> Result<bool
 // and from the same folder all redos.
 fn are_valid(alloc: Global, folder: &Folder, entries: &[Changes], cursor: usize) -> Result<bool>
     requires { cursor ≤ length entries.now }
-    ensures { IfOk result (λ x. x ≡ are_valid folder.now.files cursor entries.now) }
+    ensures { IfOk result (λ x. x ≡ is_valid (session_at folder.now.files cursor entries.now)) }
 {
     let undos: Vec<&Changes> = entries[..cursor].iter().rev().collect(alloc)?;
     let redos: Vec<&Changes> = entries[cursor..].iter().collect(alloc)?;
@@ -168,7 +168,8 @@ fn settle(alloc: Global, folder: &mut Folder, entries: &[Changes], cursor: usize
     ensures vacant { folder.old.vacant ≤ folder.new.vacant }
     // The result says whether the entries are valid. If they are, the folder has room for every
     // undo and redo.
-    ensures valid { IfOk result (λ x. x ≡ are_valid folder.old.files cursor entries.now) }
+    ensures valid { let session = session_at folder.old.files cursor entries.now in
+        IfOk result (λ x. x ≡ is_valid session) }
     ensures walks { result ≡ Ok true → EntriesWalk folder.new cursor entries.now }
 {
     folder.reserve(change_count(entries))?;

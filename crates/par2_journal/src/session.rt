@@ -345,36 +345,19 @@ impl Session {
         ensures task { task_kind task.new ≡ task_kind task.old }
         ensures spelled { IfOk result (SpellsReady (task_kind task.old) self.old) }
     {
-        let alloc = self.allocator();
         let cursor = self.cursor;
         let folder = &mut self.folder;
         match task {
             Task::Change(changes) => {
-                spell_command(alloc, fingerprints, &self.entries, cursor, folder, changes)
+                spell_command(fingerprints, &self.entries, cursor, folder, changes)
             }
             Task::Undo => {
                 let at = cursor - 1;
-                spell_entry(
-                    alloc,
-                    fingerprints,
-                    &mut self.entries,
-                    at,
-                    cursor,
-                    at,
-                    folder,
-                )
+                spell_entry(fingerprints, &mut self.entries, at, cursor, at, folder)
             }
             Task::Redo => {
                 let to = cursor + 1;
-                spell_entry(
-                    alloc,
-                    fingerprints,
-                    &mut self.entries,
-                    cursor,
-                    cursor,
-                    to,
-                    folder,
-                )
+                spell_entry(fingerprints, &mut self.entries, cursor, cursor, to, folder)
             }
         }
     }

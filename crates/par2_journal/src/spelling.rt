@@ -173,7 +173,6 @@ fn both(
 // entries, `cursor` of which are undos. The changes are applied and taken back, even if memory runs out; their bytes
 // are copied only into the journals.
 pub(crate) fn spell_command(
-    alloc: Global,
     fingerprints: &Fingerprints,
     entries: &[Changes],
     cursor: usize,
@@ -190,6 +189,7 @@ pub(crate) fn spell_command(
     // Both journals are those of the command.
     ensures spelled { IfOk result (SpellsCommand folder.old cursor entries.now changes.old) }
 {
+    let alloc = *fingerprints.after_each.allocator();
     let front = begin(alloc, &settled(fingerprints.before, cursor, entries, &[]))?;
     changes.apply_and_invert(folder);
     let newer = from_ref(&*changes);
@@ -204,7 +204,6 @@ pub(crate) fn spell_command(
 // the number of undos before, and `next` the number afterwards. The halfway journal begins with the entries as they are
 // before that, so their bytes are copied only into the journals.
 pub(crate) fn spell_entry(
-    alloc: Global,
     fingerprints: &Fingerprints,
     entries: &mut [Changes],
     at: usize,
@@ -225,6 +224,7 @@ pub(crate) fn spell_entry(
     // Both journals are those of the undo or redo.
     ensures spelled { IfOk result (SpellsEntry folder.old cursor entries.old at next) }
 {
+    let alloc = *fingerprints.after_each.allocator();
     let front = begin(alloc, &settled(fingerprints.before, cursor, entries, &[]))?;
     entries[at].apply_and_invert(folder);
     let inverted = &*entries;

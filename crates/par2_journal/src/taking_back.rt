@@ -1,13 +1,14 @@
 //! Taking back a command that a stop left halfway. `open_halfway` finds by the folder's fingerprint how many of its
 //! changes were made (`way_back`), and takes them back in memory (`take_back`). The caller then makes
 //! `Halfway::changes` in its store, puts the `settled` journal, and goes on with the session (`finish`).
-ghost use Rattle.std.specs.Prelude.{◌≡◌, ◌≤◌, ◌<◌, ◌&&◌, ⊤, IfSome, IfOk, IfErr, OnOk, OnErr, IsTrue, length, position, Ok, None, Some};
+ghost use Rattle.std.specs.Prelude.{◌≡◌, ◌≤◌, ◌<◌, ◌-◌, ◌&&◌, ⊤, drop, IfSome, IfOk, IfErr, OnOk, OnErr, IsTrue, length, position, Ok, None, Some};
 ghost use Rattle.std.specs.Str.{bytes_eq};
+ghost use Rattle.par2_spec.specs.Changes.{effects};
 ghost use Rattle.par2_spec.specs.Journals.{Spells};
 ghost use Rattle.par2_spec.specs.Opening.{is_valid, opened_by_part};
 ghost use Rattle.par2_journal_format.specs.Untested.{AreCounted};
 ghost use Rattle.par2_journal_format.specs.JournalViews.{changes_in, halfway_of, journal_of};
-ghost use Rattle.par2_journal.specs.Opening.{AnswersTest, AnswersWhere, FailsTest, HasNoPlace, LeadBack, go_through, last_changes, place_among, session_after_way, session_before, way_left};
+ghost use Rattle.par2_journal.specs.Opening.{AnswersTest, AnswersWhere, FailsTest, HasNoPlace, LeadBack, go_through, place_among, session_at, session_before, way_left};
 ghost use Rattle.par2_journal.specs.Ready.{kept_journal};
 ghost use Rattle.par2_journal.specs.Walks.{WentForth};
 
@@ -89,7 +90,7 @@ fn take_back(
     requires counted { AreCounted entries.items }
     requires each { length wanted.now ≡ length way.old }
     ensures { let passed = go_through folder.files way.old wanted.now in
-        let before = session_after_way folder.files way.old cursor entries.items in
+        let before = session_at (effects folder.files (changes_in way.old)) cursor entries.items in
         AnswersTest folder (passed && is_valid before) before result }
 {
     match go_back(alloc, &mut folder, way, wanted) {
@@ -151,7 +152,7 @@ fn way_back(
     ensures wanted { let others = part.now.fingerprints.items in
         IfOk result (λ x. LeadBack folder.now.files first others x.0) }
     ensures back { let all = part.now.back in
-        IfOk result (λ x. changes_in x.1.items ≡ last_changes (length x.0.items) all) }
+        IfOk result (λ x. changes_in x.1.items ≡ drop (length all - length x.0.items) all) }
     ensures refused { IfErr result (HasNoPlace folder.now.files first part.now.fingerprints.items) }
 {
     let Some(wanted) = fingerprints_back(alloc, folder, first, &part.fingerprints)? else {

@@ -276,7 +276,6 @@ pub fn decode(alloc: Global, bytes: &[u8]) -> Result<Journal, DecodeFault>
     ensures found { IfOk result (λ journal. Spells bytes.now (journal_of journal)) }
     ensures only { (j : Defined) → Spells bytes.now j
         → MatchResult result (λ journal. journal_of journal ≡ j) (λ fault. fault ≡ Memory) }
-    ensures invalid { result ≡ Err JournalInvalid → (j : Defined) → Spells bytes.now j → ⊥ }
     ensures unsealed { ¬ (IsSealed bytes.now) → result ≡ Err JournalInvalid }
 {
     if !is_sealed(bytes) {

@@ -10,8 +10,7 @@ returns c =
     let made = exchanged _ c.requires.kept _ _ _ here (c.as_str-bytes.ensures.name, c.as_slice-slice.ensures.fits) in
     record {
       bytes = rw c.swap.ensures.y_after (bytes_at _ c.requires.kept _ _ here ∙ ap (λ e. Some e.1) (sym read));
-      kept = rw (named, c.swap.ensures.x_after) made.kept;
-      folder = rw (named, c.swap.ensures.x_after) made.is;
+      files = rw (named, c.swap.ensures.x_after) made;
       len = search rules;
       capacity = search rules;
     }

@@ -5,11 +5,8 @@ use Rattle.par2_files.proofs.folder.remove_at.Goals as goal
 pub returns-clause-bytes : goal.returns-clause-bytes
 returns-clause-bytes c = bytes_at _ c.requires.kept _ _ c.requires.here ∙ ap (λ e. Some e.1) (sym (c.remove.ensures.value ∙ get_or_default _ _ c.remove.result ([], []) c.requires.here.in_range))
 
-pub returns-clause-kept : goal.returns-clause-kept
-returns-clause-kept c = rw c.remove.ensures.items (removed _ c.requires.kept _ _ c.requires.here).kept
-
-pub returns-clause-folder : goal.returns-clause-folder
-returns-clause-folder c = rw c.remove.ensures.items (removed _ c.requires.kept _ _ c.requires.here).is
+pub returns-clause-files : goal.returns-clause-files
+returns-clause-files c = rw c.remove.ensures.items (removed _ c.requires.kept _ _ c.requires.here)
 
 pub returns-clause-absent : goal.returns-clause-absent
-returns-clause-absent c q none = rw (c.remove.ensures.items, (removed _ c.requires.kept _ _ c.requires.here).is) (stays_absent _ _ q none)
+returns-clause-absent c q none = rw (c.remove.ensures.items, (removed _ c.requires.kept _ _ c.requires.here).folder) (stays_absent _ _ q none)

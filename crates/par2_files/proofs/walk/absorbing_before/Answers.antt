@@ -59,8 +59,8 @@ loop-change-preserved c =
           rw w.absorbing-is (goes_on walk.invariant c.loop-change-test.true c.change-item.is place next after c.in_ok-apply.ensures.kept walk.absorbing walk.invariant.few false begun (subst (AreTo walk.absorbing) (sym (append-nil walk.invariant.done)) walk.invariant.reached))
     ]
 
-pub returns-clause-buffers : goal.returns-clause-buffers
-returns-clause-buffers c = arrived c.loop-change.invariant c.loop-change-test.false
+pub returns-clause-states : goal.returns-clause-states
+returns-clause-states c = arrived c.loop-change.invariant c.loop-change-test.false
 
 pub offset_bounds-states-place : goal.offset_bounds-states-place
 offset_bounds-states-place c = grind (arith, common_steps)

@@ -1,4 +1,4 @@
-use Rattle.par2_journal.proofs.Common.{◌≡◌, ◌&&◌, true, false, ap, subst, ◌∙◌, and_from, and_right, ⊎_map, FolderState, is_valid, changes_in, go_through, session_after_way, session_at}
+use Rattle.par2_journal.proofs.Common.{◌≡◌, ◌&&◌, true, false, ap, subst, ◌∙◌, and_from, and_right, ⊎_map, FolderState, is_valid, changes_in, go_through, effects, session_at}
 use Rattle.par2_journal.proofs.Openings.{takes_roomier, same_files_after}
 use Rattle.par2_journal.proofs.taking_back.take_back.Goals as goal
 
@@ -19,7 +19,7 @@ returns-in-Ok-session_from c =
 
 pub returns-in-Err : goal.returns-in-Err
 returns-in-Err c =
-    let before = session_after_way c.args.folder.files c.args.way.now c.args.cursor c.args.entries.items in
+    let before = session_at (effects c.args.folder.files (changes_in c.args.way.now)) c.args.cursor c.args.entries.items in
     record {
       passed = tt;
       session = tt;
@@ -30,7 +30,7 @@ returns-in-Err c =
 pub returns-in-Err-session_from : goal.returns-in-Err-session_from
 returns-in-Err-session_from c =
     let leads = go_through c.args.folder.files c.args.way.now c.args.wanted.now in
-    let before = session_after_way c.args.folder.files c.args.way.now c.args.cursor c.args.entries.items in
+    let before = session_at (effects c.args.folder.files (changes_in c.args.way.now)) c.args.cursor c.args.entries.items in
     let refused = c.in-Err-session_from.ensures.answer in
     record {
       passed = tt;

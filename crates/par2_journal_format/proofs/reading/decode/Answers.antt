@@ -5,9 +5,6 @@ use Rattle.par2_journal_format.proofs.reading.decode.Goals as goal
 pub returns-then-not-is_sealed-clause-only : goal.returns-then-not-is_sealed-clause-only
 returns-then-not-is_sealed-clause-only c = λ j spells. absurd (false≢true (sym c.if-not-is_sealed.true ∙ c.is_sealed.ensures.1 (spells_sealed c.args.bytes.now j spells)))
 
-pub returns-then-not-is_sealed-clause-invalid : goal.returns-then-not-is_sealed-clause-invalid
-returns-then-not-is_sealed-clause-invalid c = λ _ j spells. false≢true (sym c.if-not-is_sealed.true ∙ c.is_sealed.ensures.1 (spells_sealed c.args.bytes.now j spells))
-
 pub returns-clause-only : goal.returns-clause-only
 returns-clause-only c = λ j spells.
     let found = c.in_ok-decode_untested.ensures.found in

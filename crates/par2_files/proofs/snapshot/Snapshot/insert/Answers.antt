@@ -6,10 +6,10 @@ pub returns-in-Ok : goal.returns-in-Ok
 returns-in-Ok c =
     let here = rw c.deref.ensures.value at c.in-Ok.ensures.found in
     let made = put_at c.args.self.now.files.items c.requires c.args.name.now (record { name = c.args.name; bytes = c.args.bytes }) c.in-Ok.at refl here (c.as_str-bytes.ensures.name, c.as_slice-slice.ensures.fits) in
-    record { kept = made.kept; folder = made.is }
+    made
 
 pub returns-in_ok-insert-in-Err : goal.returns-in_ok-insert-in-Err
 returns-in_ok-insert-in-Err c =
     let gap = rw c.deref.ensures.value at c.in-Err.ensures.absent in
     let made = put_in_gap c.args.self.now.files.items c.requires c.args.name.now (record { name = c.args.name; bytes = c.args.bytes }) c.in-Err.at refl gap (c.as_str-bytes.ensures.name, c.as_slice-slice.ensures.fits) in
-    rw c.in_ok-insert-in-Err.ensures.items (record { kept = made.kept; folder = made.is })
+    rw c.in_ok-insert-in-Err.ensures.items made

@@ -11,6 +11,5 @@ returns c =
     let made = taken_from c.args.self.now.files.items c.requires.kept c.args.name.now c.in-Ok.at here in
     record {
       bytes = bytes_taken c.args.self.now.files.items c.requires.kept c.args.name.now c.in-Ok.at c.remove.result here c.remove.ensures.value;
-      kept = rw c.remove.ensures.items made.kept;
-      folder = rw c.remove.ensures.items made.is;
+      files = rw c.remove.ensures.items made;
     }
