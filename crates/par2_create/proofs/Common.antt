@@ -1,5 +1,6 @@
 -- Names from other crates that the proofs of this one use.
 
+use Rattle.std.specs.Prelude.{if◌then◌else◌, slice_index_or}
 pub use Rattle.std.proofs.Common.{Bool, Bor, Err, Global, List, None, Option, Some, Vec, [], ap, append-nil, append_assoc, ap₂, arith, below_more, cond, drop, eqb, false, get_or, inl, inr, length, length-append, map, mul-le-mul_right, nat_le, nat_lt, not, refl, replicate, rules, string_bytes, subst, suc, sym, take, tests, true, zero, zero-add, ℕ, ◌%◌, ◌&&◌, ◌*◌, ◌++◌, ◌+◌, ◌-◌, ◌/◌, ◌<◌, ◌^◌, ◌||◌, ◌∙◌, ◌∷◌, ◌≡◌, ◌≤◌}
 pub use Rattle.std.proofs.lemmas.Bool.{and_from, and_parts, cases_lt, eq-eqb, eqb-false, eqb-true, false_from_ne_true, false≢true, le-leb, le-ltb, leb-true, lt-ltb, ltb-false, ltb-true, ne_eqb, not-false, not-true, not_from_false, not_from_true, or_from, or_parts}
 pub use Rattle.std.proofs.lemmas.Grind.{div_ceil_times, flat_map-append}
@@ -16,8 +17,8 @@ pub use Rattle.std.specs.Str.{bytes_eq, is_utf8}
 pub use Rattle.std.specs.Vec.Iter.{into_iter_items, into_iter_len}
 pub use Rattle.par2_create.specs.Faults.{duplicate_input, existing, long_name}
 unfoldable pub use Rattle.par2_create.specs.Faults.{files_fault, ids_fault, inputs_fault}
-pub use Rattle.par2_create.specs.Outputs.{RecordsInputs, inputs_of, volume_names, output_names, packets_between, put_change, volume_at, volume_file, volume_if, volumes_requested, volumes_of}
-pub use Rattle.par2_create.specs.Volumes.{as_file, blank_volume, exponents_in, volume_exponents, length_with, nth_volume, place_in, places_in, places_of, slice_of, volume_with, with_slices}
+pub use Rattle.par2_create.specs.Outputs.{RecordsInputs, inputs_of, volume_names, put_change, volume_at, volume_file, volumes_requested, volumes_of}
+pub use Rattle.par2_create.specs.Volumes.{as_file, blank_volume, exponents_in, volume_exponents, length_with, place_in, places_in, places_of, slice_of, volume_with, with_slices}
 pub use Rattle.par2_create.specs.declared.inputs.Input.{Input}
 pub use Rattle.par2_create.specs.declared.names.Volume.{Volume}
 pub use Rattle.par2_create.specs.declared.index.Parts.{Parts}
@@ -60,3 +61,15 @@ pub use Rattle.par2_spec.specs.declared.Fault.{Fault}
 pub use Rattle.par2_spec.specs.declared.Fault.TheVariants.{BadBase, BadCount, BadName, BadSliceSize, DuplicateId, DuplicateInput, EmptyFile, NameTooLong, NoInput, NoSuchFile, TooManySlices}
 pub use Rattle.par2_spec.specs.declared.Kind.TheVariants.{Creator, FileDesc, Ifsc, Main, Recovery}
 pub use Rattle.par2_transform.specs.declared.outputs.Place.{Place}
+
+-- volume i, if it has a recovery slice
+abbrev pub volume_if : List ℕ → ℕ → ℕ → ℕ → List Volume
+volume_if base f c i = if nat_lt (volumes_before i) c then volume_at base f c i ∷ [] else []
+
+-- the names of the outputs, the index first
+abbrev pub output_names : CreateArgs → List (List ℕ)
+output_names a = a.base ∷ volume_names (volumes_requested a)
+
+-- volume j, or an empty one beyond the end
+abbrev pub nth_volume : List Volume → ℕ → Volume
+nth_volume volumes j = slice_index_or volumes j (record { name = []; first = 0; count = 0 })

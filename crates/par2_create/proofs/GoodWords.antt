@@ -45,18 +45,18 @@ pub record AreInputs (folder : Folder) (size : ℕ) (inputs : List (List ℕ)) :
   pub filled : AllByRecursion (λ file. (length file.1 == 0) ≡ false) (files_of folder inputs)
   pub few : sum_by (λ file. slice_count size (length file.1)) (files_of folder inputs) ≤ 32768
 
-pub inputs_passed : (folder : Folder) (size : ℕ) (inputs : List (List ℕ)) → inputs_fault folder size inputs ≡ None → AreInputs folder size inputs
+pub inputs_passed : (folder : Folder) (a : CreateArgs) → inputs_fault folder a ≡ None → AreInputs folder a.slice a.inputs
 unfolding inputs_fault files_fault ids_fault
-inputs_passed folder size inputs h =
-    let all : List File = files_of folder inputs in
+inputs_passed folder a h =
+    let all : List File = files_of folder a.inputs in
     let absent = fault_at 1 NoSuchFile (λ (file : File). length file.1 == 0 && not (has folder file.0)) all in
     let empties = fault_at 1 EmptyFile (λ (file : File). length file.1 == 0) all in
-    let too_many = nat_lt 32768 (sum_by (λ (file : File). slice_count size (length file.1)) all) in
-    let none = all_none (bad_name inputs ∷ duplicate_input inputs ∷ files_fault folder size all ∷ ids_fault all ∷ []) h in
+    let too_many = nat_lt 32768 (sum_by (λ (file : File). slice_count a.slice (length file.1)) all) in
+    let none = all_none (bad_name a.inputs ∷ duplicate_input a.inputs ∷ files_fault folder a.slice all ∷ ids_fault all ∷ []) h in
     let files = all_none (absent ∷ empties ∷ fault_where too_many TooManySlices ∷ []) none.1.1.0 in
     record {
       filled = at_none 1 EmptyFile (λ (file : File). length file.1 == 0) all files.1.0;
-      few = ltb-false 32768 (sum_by (λ (file : File). slice_count size (length file.1)) all) (where_none too_many TooManySlices files.1.1.0);
+      few = ltb-false 32768 (sum_by (λ (file : File). slice_count a.slice (length file.1)) all) (where_none too_many TooManySlices files.1.1.0);
     }
 
 -- ---- their records

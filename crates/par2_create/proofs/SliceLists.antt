@@ -1,5 +1,5 @@
 -- Lists of slices and of packets, part by part.
-use Rattle.par2_create.proofs.Common.{◌≡◌, ℕ, ◌+◌, ◌*◌, ◌≤◌, ◌<◌, ap₂, append_assoc, map-append, map-range_with_len_more, zero-add, range_with_len, padded, slice_at, buffers_of, Bor, List, [], ◌∷◌, ◌++◌, length, map, get_or, take, drop, sym, ap, ◌∙◌, arith, Vec, Global, take_all, take_more, get_or-map, length-map, take-map, flat_map_more, drop_more, length-drop, flat_map, sum_by, sum_by_more_le, lists_of}
+use Rattle.par2_create.proofs.Common.{◌≡◌, ℕ, ◌+◌, ◌*◌, ◌≤◌, ◌<◌, ap₂, append_assoc, map-append, map-range_with_len_more, zero-add, range_with_len, padded, slice_at, buffers_of, Bor, List, [], ◌∷◌, ◌++◌, length, map, get_or, take, drop, sym, ap, ◌∙◌, arith, Vec, Global, take_all, take_more, length-map, flat_map_more, drop_more, length-drop, flat_map, lists_of}
 
 pub appended_next : {X A : Type 0} (f : X → List A) (xs : List X) (i : ℕ) (x : X) (old out new : List A) → i < length xs → x ≡ get_or xs i x → out ≡ old ++ flat_map f (take i xs) → new ≡ out ++ f x
     → new ≡ old ++ flat_map f (take (i + 1) xs)

@@ -1,5 +1,5 @@
 -- Filling in the MD5s of a volume's packets.
-use Rattle.par2_create.proofs.Common.{◌≡◌, ℕ, ◌+◌, ◌-◌, ◌*◌, ◌≤◌, List, [], ◌++◌, length, take, drop, sym, ap, ap₂, ◌∙◌, arith, append-nil, length-append, flat_map, range_with_len, take_at, drop_at, take_all, drop_all, length-drop, flat_map-map, packet, packet_of, recovery_bytes, Recovery, ArePieces, undigested, digested, length-pieces, length-undigested, Parts, inputs_of, packets_between, slice_of}
+use Rattle.par2_create.proofs.Common.{◌≡◌, ℕ, ◌+◌, ◌-◌, ◌*◌, ◌≤◌, List, [], ◌++◌, length, take, drop, sym, ap, ap₂, ◌∙◌, arith, append-nil, length-append, flat_map, range_with_len, take_at, drop_at, take_all, drop_all, length-drop, flat_map-map, packet, packet_of, recovery_bytes, Recovery, ArePieces, undigested, digested, length-pieces, length-undigested, Parts, inputs_of, recovery_packets, slice_of}
 use Rattle.par2_spec.proofs.WrittenSets.{recovery_length}
 use borrow.Rule.Slice.PartMut.{put_mid}
 
@@ -33,7 +33,7 @@ pub packets_digested : (parts : Parts) (first count : ℕ) (old new : List ℕ)
     → ((id : List ℕ) (e : ℕ) (slice : ℕ → List ℕ) → ArePieces (68 + parts.set.now.slice) (λ k. undigested id k (slice k)) e count old
     → ArePieces (68 + parts.set.now.slice) (λ k. digested id k (slice k)) e count new)
     → old ≡ flat_map (λ e. undigested parts.set_id e (slice_of parts e)) (range_with_len first count)
-    → new ≡ flat_map packet (packets_between parts first count)
+    → new ≡ flat_map packet (recovery_packets parts.set.now.slice parts.set_id (inputs_of parts) first count)
 packets_digested parts first count old new put is =
     let s : ℕ = parts.set.now.slice in
     let id : List ℕ = parts.set_id in

@@ -6,7 +6,7 @@ use Rattle.par2_spec.specs.Names.{is_among, distinct}
 use Rattle.par2_spec.specs.Slices.{slice_count}
 use Rattle.par2_spec.specs.Folders.{File, Folder, has}
 use Rattle.par2_spec.specs.Volumes.{id_of}
-use Rattle.par2_spec.specs.Commands.{files_of}
+use Rattle.par2_spec.specs.Commands.{CreateArgs, files_of}
 use Rattle.par2_spec.specs.Refusals.{bad_name}
 use Rattle.par2_spec.specs.declared.Fault.{Fault}
 use Rattle.par2_spec.specs.declared.Fault.TheVariants.{DuplicateInput, NoSuchFile, EmptyFile, TooManySlices, DuplicateId, NameTooLong, Exists}
@@ -28,11 +28,11 @@ unfoldable pub ids_fault : List File → Option Fault
 ids_fault files = fault_where (not (length (distinct (map id_of files)) == length files)) DuplicateId
 
 -- the first fault of the inputs: of their names, their files or their File IDs
-unfoldable pub inputs_fault : Folder → ℕ → List (List ℕ) → Option Fault
+unfoldable pub inputs_fault : Folder → CreateArgs → Option Fault
 unfolding files_fault ids_fault
-inputs_fault folder size inputs =
-    let files = files_of folder inputs in
-    first_fault (bad_name inputs ∷ duplicate_input inputs ∷ files_fault folder size files ∷ ids_fault files ∷ [])
+inputs_fault folder a =
+    let files = files_of folder a.inputs in
+    first_fault (bad_name a.inputs ∷ duplicate_input a.inputs ∷ files_fault folder a.slice files ∷ ids_fault files ∷ [])
 
 -- the fault if one of the names is longer than a name may be
 abbrev pub long_name : List (List ℕ) → Option Fault

@@ -1,6 +1,6 @@
 -- The outputs of a create, by parts.
-use Rattle.std.specs.Prelude.{ℕ, ◌≡◌, ◌+◌, nat_lt, List, [], ◌∷◌, ◌++◌, map, flat_map, if◌then◌else◌}
-use Rattle.par2_spec.specs.Packets.{Packet, packet}
+use Rattle.std.specs.Prelude.{ℕ, ◌≡◌, ◌+◌, List, ◌++◌, map, flat_map, if◌then◌else◌}
+use Rattle.par2_spec.specs.Packets.{packet}
 use Rattle.par2_spec.specs.Folders.{Folder, File, has}
 use Rattle.par2_spec.specs.Changes.{Change, Write, Replace}
 use Rattle.par2_spec.specs.Volumes.{volume_name, volume_numbers, volumes_before, volume_size, recovery_packets, record_of, in_id_order}
@@ -19,10 +19,6 @@ volume_at base f c i = record {
   count = volume_size c i;
 }
 
--- volume i, if it has a recovery slice
-abbrev pub volume_if : List ℕ → ℕ → ℕ → ℕ → List Volume
-volume_if base f c i = if nat_lt (volumes_before i) c then volume_at base f c i ∷ [] else []
-
 -- all volumes, in order
 abbrev pub volumes_of : List ℕ → ℕ → ℕ → List Volume
 volumes_of base f c = map (volume_at base f c) (volume_numbers c)
@@ -35,10 +31,6 @@ volumes_requested a = volumes_of a.base a.first a.count
 abbrev pub volume_names : List Volume → List (List ℕ)
 volume_names volumes = map (λ volume. volume.name) volumes
 
--- the names of the outputs, the index first
-abbrev pub output_names : CreateArgs → List (List ℕ)
-output_names a = a.base ∷ volume_names (volumes_requested a)
-
 -- the set describes a create's inputs, in the order of their File IDs
 pub record RecordsInputs (folder : Folder) (a : CreateArgs) (set : RecoverySet) : Type 0 where
   pub slice : set.slice ≡ a.slice
@@ -48,13 +40,9 @@ pub record RecordsInputs (folder : Folder) (a : CreateArgs) (set : RecoverySet) 
 abbrev pub inputs_of : Parts → List (List ℕ)
 inputs_of parts = records.slices_of_records parts.folder.now.files parts.set.now.slice parts.set.now.files.items
 
--- the packets of n recovery slices from exponent e on
-abbrev pub packets_between : Parts → ℕ → ℕ → List Packet
-packets_between parts e n = recovery_packets parts.set.now.slice parts.set_id (inputs_of parts) e n
-
 -- the bytes of a volume
 abbrev pub volume_file_name : Parts → Volume → List ℕ
-volume_file_name parts volume = parts.index.items ++ flat_map packet (packets_between parts volume.first volume.count)
+volume_file_name parts volume = parts.index.items ++ flat_map packet (recovery_packets parts.set.now.slice parts.set_id (inputs_of parts) volume.first volume.count)
 
 -- a volume as a file
 abbrev pub volume_file : Parts → Volume → File

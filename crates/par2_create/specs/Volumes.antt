@@ -1,5 +1,5 @@
 -- Volumes, into which recovery slices are written, and the places of these.
-use Rattle.std.specs.Prelude.{ℕ, ◌≡◌, ◌+◌, ◌*◌, List, [], ◌++◌, length, map, flat_map, replicate, slice_index_or, Vec}
+use Rattle.std.specs.Prelude.{ℕ, ◌≡◌, ◌+◌, ◌*◌, List, ◌++◌, length, map, flat_map, replicate, Vec}
 use Rattle.std.specs.declared.alloc.Global.{Global}
 use Rattle.std.specs.List.{enumerate_from, range_with_len}
 use Rattle.par2_spec.specs.Folders.{File}
@@ -38,10 +38,6 @@ as_file file = (file.0, file.1.items)
 -- the volumes as files, in order
 abbrev pub AreFiles : {Z : Type 0} → Parts → List Volume → Vec (List ℕ × Vec ℕ Global) Z → Type 0
 AreFiles parts volumes files = map as_file files.items ≡ map (volume_file parts) volumes
-
--- volume j, or an empty one beyond the end
-abbrev pub nth_volume : List Volume → ℕ → Volume
-nth_volume volumes j = slice_index_or volumes j (record { name = []; first = 0; count = 0 })
 
 -- the exponents of a volume's recovery slices, in order
 abbrev pub exponents_in : Volume → List ℕ

@@ -1,8 +1,9 @@
 //! Plans a create: the changes that write its outputs, or the fault for which it is refused. `plan_create` checks the
 //! arguments and the inputs, describes the inputs, names the volumes, and lists the changes.
-ghost use Rattle.std.specs.Prelude.{◌≡◌, ◌≤◌, ◌⊎◌, Some, None, map, string_bytes, IsTrue, IfOk, IfErr, OnOk};
+ghost use Rattle.std.specs.Prelude.{◌≡◌, ◌≤◌, None, map, string_bytes, IsTrue, IfOk, OnOk};
 ghost use Rattle.par2_spec.specs.Changes.{effects, are_applicable};
 ghost use Rattle.par2_spec.specs.Commands.{Create};
+ghost use Rattle.par2_spec.specs.Answers.{FailsFor};
 ghost use Rattle.par2_spec.specs.Refusals.{head_fault, bad_name, after};
 ghost use Rattle.par2_spec.specs.Plans as plans;
 ghost use Rattle.par2_spec.specs.Views.{create_args_of};
@@ -48,11 +49,8 @@ fn set_of_inputs(
     requires checkpoints { AreCheckpointsOf folder.now.files from.now }
     // It fails for the first cause that the inputs give, or for lack of memory, and succeeds only
     // if there is no cause.
-    ensures refused { let names = map string_bytes args.now.inputs.items in
-        let cause = inputs_fault folder.now.files args.now.slice names in
-        IfErr result (λ fault. (fault ≡ Fault.Memory) ⊎ (cause ≡ Some fault)) }
-    ensures accepted { let names = map string_bytes args.now.inputs.items in
-        OnOk result (inputs_fault folder.now.files args.now.slice names ≡ None) }
+    ensures refused { FailsFor (inputs_fault folder.now.files (create_args_of args.now)) result }
+    ensures passed { OnOk result (inputs_fault folder.now.files (create_args_of args.now) ≡ None) }
     // The set describes the inputs in the order of their File IDs, and the checkpoints are of this
     // folder.
     ensures set { let requested = create_args_of args.now in
@@ -82,8 +80,7 @@ fn outputs_written(
 ) -> Result<Changes>
     // Nothing is wrong with the arguments and the inputs.
     requires head { head_fault (create_args_of args.now) ≡ None }
-    requires inputs { let names = map string_bytes args.now.inputs.items in
-        inputs_fault folder.now.files args.now.slice names ≡ None }
+    requires inputs { inputs_fault folder.now.files (create_args_of args.now) ≡ None }
     // The base, the set and the volumes are those of the arguments.
     requires base { base ≡ string_bytes args.now.base }
     requires set { RecordsInputs folder.now.files (create_args_of args.now) set.now }

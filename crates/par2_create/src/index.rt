@@ -1,9 +1,8 @@
 //! The index file of a set, whose packets each volume repeats.
-ghost use Rattle.std.specs.Prelude.{◌≡◌, ◌≤◌, ◌+◌, ◌%◌, ◌^◌, ◌++◌, All, length, map, flat_map, IfOk, OnOk};
+ghost use Rattle.std.specs.Prelude.{◌≡◌, ◌≤◌, ◌+◌, ◌%◌, ◌^◌, All, length, map, flat_map, IfOk};
 ghost use Rattle.par2_spec.specs.Packets.{packet};
 ghost use Rattle.par2_spec.specs.Volumes as spec;
-ghost use Rattle.par2_spec.specs.Volumes.{packet_of, index_packets, desc_bytes, ifsc_bytes};
-ghost use Rattle.par2_spec.specs.declared.Kind.TheVariants.{FileDesc, Ifsc};
+ghost use Rattle.par2_spec.specs.Volumes.{index_packets};
 ghost use Rattle.par2_packets.specs.PacketViews.{file_record_of};
 ghost use Rattle.par2_create.specs.Records.{slices_of_records};
 
@@ -30,28 +29,6 @@ pub struct Parts<'a> {
     ghost few: { let records = set.now.files.items in
         length (slices_of_records folder.now.files set.now.slice records) ≤ 32768 },
     ghost exponents: { All (λ volume. volume.first + volume.count ≤ 65536) volumes.now },
-}
-
-// Appends the FileDescs of these files, in order. `id` is the Recovery Set ID.
-fn append_descs(alloc: Global, out: &mut Vec<u8>, id: &[u8; 16], files: &[FileRecord]) -> Result<()>
-    ensures { OnOk result (out.new.items ≡ out.old.items ++ flat_map (λ file.
-        packet (packet_of id.now FileDesc (desc_bytes (file_record_of file)))) files.now) }
-{
-    for file in files {
-        append_desc(alloc, out, id, file)?;
-    }
-    Ok(())
-}
-
-// Appends the IFSCs of these files, in order. `id` is the Recovery Set ID.
-fn append_ifscs(alloc: Global, out: &mut Vec<u8>, id: &[u8; 16], files: &[FileRecord]) -> Result<()>
-    ensures { OnOk result (out.new.items ≡ out.old.items ++ flat_map
-        (λ file. packet (packet_of id.now Ifsc (ifsc_bytes (file_record_of file)))) files.now) }
-{
-    for file in files {
-        append_ifsc(alloc, out, id, file)?;
-    }
-    Ok(())
 }
 
 // The bytes that a file adds to an index beside its name and the checksums of its slices: two headers, the FileDesc
@@ -83,8 +60,12 @@ pub fn index_of(alloc: Global, s: u64, files: &[FileRecord]) -> Result<([u8; 16]
     let len = lens.fold(FRAME_LEN, |sum, len| sum.saturating_add(len));
     let mut index = Vec::with_capacity(alloc, len)?;
     append_main(alloc, &mut index, s, files)?;
-    append_descs(alloc, &mut index, &set_id, files)?;
-    append_ifscs(alloc, &mut index, &set_id, files)?;
+    for file in files {
+        append_desc(alloc, &mut index, &set_id, file)?;
+    }
+    for entry in files {
+        append_ifsc(alloc, &mut index, &set_id, entry)?;
+    }
     append_creator(alloc, &mut index, &set_id)?;
     Ok((set_id, index))
 }

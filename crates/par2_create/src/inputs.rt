@@ -42,8 +42,7 @@ pub fn no_duplicate(alloc: Global, names: &[Name]) -> Result<(), Fault>
 
 /// The inputs of these names, in order. An absent file has no bytes.
 pub fn inputs_in<'f>(alloc: Global, folder: &'f Folder, names: &'f [Name]) -> Result<Vec<Input<'f>>>
-    ensures { IfOk result
-        (λ inputs. map input_file inputs.items ≡ files_of folder.now.files names.now) }
+    ensures { IfOk result (λ all. map input_file all.items ≡ files_of folder.now.files names.now) }
 {
     let inputs = names.iter().map(|name| Input {
         name,
@@ -54,8 +53,7 @@ pub fn inputs_in<'f>(alloc: Global, folder: &'f Folder, names: &'f [Name]) -> Re
 
 /// The bytes of each input, in order.
 pub fn contents_of<'f>(alloc: Global, inputs: &[Input<'f>]) -> Result<Vec<&'f [u8]>>
-    ensures { IfOk result
-        (λ all. buffers_of all.items ≡ map (λ input. input.bytes.now) inputs.now) }
+    ensures { IfOk result (λ it. buffers_of it.items ≡ map (λ input. input.bytes.now) inputs.now) }
 {
     inputs.iter().map(|input| input.bytes).collect(alloc)
 }
@@ -110,13 +108,6 @@ pub fn files_fault(folder: &Folder, inputs: &[Input], size: u64) -> Option<Fault
     are_too_many(inputs, size).then_some(Fault::TooManySlices)
 }
 
-// The fault of a create, two of whose inputs have one File ID.
-fn fault_of(_: DuplicateId) -> Fault
-    ensures { result ≡ Fault.DuplicateId }
-{
-    Fault::DuplicateId
-}
-
 /// The set of these inputs in the order of their File IDs, with slices of `size` bytes. `md5s` are the MD5s of the inputs.
 /// It fails by `DuplicateId`, or for lack of memory.
 pub fn set_of(
@@ -136,6 +127,6 @@ pub fn set_of(
     let records = file_records(alloc, inputs, md5s, size)?;
     match sorted_by_id(records) {
         Ok(files) => Ok(RecoverySet { slice: size, files }),
-        Err(fault) => Err(fault_of(fault)),
+        Err(DuplicateId) => Err(Fault::DuplicateId),
     }
 }

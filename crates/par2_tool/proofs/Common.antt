@@ -3,7 +3,7 @@
 pub use Rattle.std.proofs.Common.{Bool, Err, IsTrue, List, None, Ok, Option, Result, Some, Vec, [], ap, arith, drop, false, get_or, inl, inr, le-add_right, le_refl, le_trans, length, map, refl, replicate, rules, subst, suc, sym, take, true, true≢false, zero, ℕ, ◌++◌, ◌+◌, ◌<◌, ◌∙◌, ◌∷◌, ◌≡◌, ◌≢◌, ◌≤◌, ◌⊎◌}
 pub use Rattle.std.proofs.lemmas.Bool.{and_parts, false≢true}
 pub use Rattle.std.proofs.lemmas.List.{append-nil, length-map, length-replicate, map_more, replicate_more, take-map, take_all}
-pub use Rattle.std.proofs.lemmas.Result.{IfErr-weaker, IfOk-weaker, err_from_is_err_and, on_err_weaker, on_ok_weaker}
+pub use Rattle.std.proofs.lemmas.Result.{IfErr-weaker, IfOk-from_err, IfOk-weaker, err_from_is_err_and, on_err_weaker, on_ok_weaker}
 pub use Rattle.std.specs.List.{AllByRecursion}
 pub use Rattle.std.specs.Prelude.{IfErr, IfOk, IsErr, IsOk, OnErr, OnOk, codes, flat_map, is_some, option_map, string_bytes}
 pub use Rattle.std.specs.declared.alloc.Global.{Global}
@@ -25,9 +25,9 @@ pub use Rattle.par2_spec.proofs.SessionLaws.{accepted_next, done_can_walk, grown
 pub use Rattle.par2_spec.proofs.StopLaws.{halfway_stored, settled_stored, still_stored, taken_back_leads}
 pub use Rattle.par2_spec.proofs.TestLaws.{by_either}
 pub use Rattle.par2_spec.proofs.WritingLaws.{part_behind, shown_lines_cut, shown_lines_next, took_both, wrote_less, wrote_then}
-pub use Rattle.par2_spec.specs.Changes.{Change, are_applicable, takes_all}
-unfoldable pub use Rattle.par2_spec.specs.Changes.{effects}
-pub use Rattle.par2_spec.specs.Commands.{Action, Command, Do, Repair, Undo, Verify}
+pub use Rattle.par2_spec.specs.Changes.{Change, takes_all}
+unfoldable pub use Rattle.par2_spec.specs.Changes.{are_applicable, effects}
+pub use Rattle.par2_spec.specs.Commands.{Action, Command, CreateArgs, Do, Repair, Undo, Verify}
 pub use Rattle.par2_spec.specs.Folders.{Folder}
 pub use Rattle.par2_spec.specs.History.{Accepted, Ended, Execution, History, IsChanging, Passed, Refusal, folders}
 unfoldable pub use Rattle.par2_spec.specs.History.{history_after}
@@ -52,7 +52,7 @@ pub use Rattle.par2_spec.specs.declared.Fault.TheVariants.{Memory, NotRepairable
 pub use Rattle.par2_spec.specs.declared.JournalFault.{JournalFault}
 pub use Rattle.par2_spec.specs.declared.Version.TheVariants.{Two}
 pub use Rattle.par2_tool.specs.Opening.{AreAtMost, AreCallsToOpen, AreSomeWritten, ContentsAreDurable, CountsCalls, FingerprintsDifferBack, Holds, HoldsJournaled, IsCounted, IsHalfway, IsOpened, IsOpening, IsSettled, IsStillHalfway, IsTakenBack, IsUnopened, IsVerify, KeepsStore, OnlyTakesBack, OpensAsBefore, OpensStore, StandsFor, WasRead, refused_as, started_of, unopened_as, with_all_changes, with_history}
-pub use Rattle.par2_tool.specs.Performing.{FingerprintsDifferAlong, HoldsAfter, IsAnswer, IsRefused, IsStoppedAt, IsWritten, OpensAsBeforeOrAfter, after_write_down, calls_before, calls_requested, calls_unless, failure_for, outcome_of, with_halfway_journal}
-pub use Rattle.par2_tool.specs.Runs.{Answered, AreCallsToRun, AskFor, AskForRepair, CountsFailedRun, Effective, Failed, FingerprintsDifferInRun, HasNoEffect, IsBack, IsCause, IsDone, IsFailed, IsOneUndoFrom, IsPrinted, IsRefusedFor, IsResult, IsRun, IsRunResult, IsShown, IsStopped, IsUnread, RunResult, Runs, TakesEffect}
+pub use Rattle.par2_tool.specs.Performing.{ActsOn, FingerprintsDifferAlong, HoldsAfter, IsAnswer, IsOn, IsPerformed, IsRefused, IsStoppedAt, IsWritten, OpensAsBeforeOrAfter, RefusesAtOnce, after_write_down, calls_before, calls_requested, calls_unless, failure_for, outcome_of, with_halfway_journal}
+pub use Rattle.par2_tool.specs.Runs.{Answered, AreCallsToRun, AskFor, AskForRepair, CountsFailedRun, Effective, Failed, FingerprintsDifferInRun, HasNoEffect, IsBack, IsCause, IsDone, IsFailed, IsOneUndoFrom, IsPrinted, IsRefusedFor, IsResult, IsRun, IsRunResult, IsShown, IsStopped, IsUnread, KeepOneHistory, LeadBackAsOpened, OpensInOneWay, RunResult, Runs, TakesEffect}
 pub use Rattle.par2_tool.specs.declared.opening.OpenFault.{OpenFault}
 pub use Rattle.par2_tool.specs.declared.performing.PerformFault.{PerformFault}

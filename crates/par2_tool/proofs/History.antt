@@ -1,14 +1,11 @@
 -- Runs on one store keep one history.
-use Rattle.par2_tool.proofs.Common.{◌≡◌, inl, inr, List, [], ◌∷◌, ◌++◌, Option, Some, None, Result, Ok, Err, Bool, true, false, refl, sym, ap, subst, ◌∙◌, ℕ, length, arith, Action, Do, Verify, Folder, Opened, Settled, Halfway, Started, opened, new_session, is_valid, started, OpensAs, Opens, leads, Session, history_of, session_unless, session_after, changes_requested, LeadsToAfterRequested, Contents, JournalFault, Journal, Spells, accepted_next, refused_alike, same_ok, ok_no_err, taken_back_leads, IsOpened, IsOpening, IsSettled, Holds, with_history, IsWritten, IsRefusedFor, HasNoEffect, Runs, Effective, TakesEffect, Refusal, Execution, history_after}
+use Rattle.par2_tool.proofs.Common.{◌≡◌, inl, inr, List, [], ◌∷◌, ◌++◌, Option, Some, None, Result, Ok, Err, Bool, true, false, refl, sym, ap, subst, ◌∙◌, ℕ, length, arith, Action, Do, Verify, Folder, Opened, Settled, Halfway, Started, opened, new_session, is_valid, started, OpensAs, Opens, leads, Session, history_of, session_unless, session_after, changes_requested, LeadsToAfterRequested, Contents, JournalFault, Journal, Spells, accepted_next, refused_alike, same_ok, ok_no_err, taken_back_leads, IsOpened, IsOpening, IsSettled, Holds, with_history, IsWritten, IsRefusedFor, HasNoEffect, Runs, Effective, TakesEffect, OpensInOneWay, KeepOneHistory, Refusal, Execution, history_after}
 use Rattle.par2_spec.specs.declared.JournalFault.TheVariants.{FolderChanged}
 use Rattle.par2_spec.specs.History as history
 use Rattle.par2_tool.specs.Runs.{Ended, Passed}
 use Rattle.par2_tool.proofs.Openings.{settled_on, halfway_by}
 
 -- ---- a store opens in one way
-
-abbrev pub OneStart : Type 0
-OneStart = (contents : Contents) (a b : Started) → IsOpening contents (Ok a) → IsOpening contents (Ok b) → a ≡ b
 
 -- bytes spell at most one journal
 abbrev OneReading : Type 0
@@ -65,7 +62,7 @@ written_holds action s after dropped old between new opened leads written = (wit
 -- ---- one run
 
 -- if it takes effect, the history takes the action's step and the store holds the session after it
-module _ (one : OneStart) (old : Contents) (started : Started) (opens : IsOpening old (Ok started)) where
+module _ (one : OpensInOneWay) (old : Contents) (started : Started) (opens : IsOpening old (Ok started)) where
   takes_step : (action : Action) (session after : Session) (dropped : Bool) → IsOpening old (Ok (record { session = session; dropped = dropped })) → LeadsToAfterRequested session.folder action → session_after session action ≡ Ok after
       → history_after (history_of started.session) action ≡ Ok (history_of after)
   takes_step action session after dropped opening leads accepted = grind (arith, accepted_next, start_leads)
@@ -100,15 +97,14 @@ effect_settles action old new (inl p) =
 effect_settles action old new (inr p) = (with_history p.2.after, p.2.holds)
 
 -- what is refused, the history refuses, too
-pub refused_so : OneStart → (old new : Contents) (started : Started) (action : Action) (reason : Refusal) → IsOpening old (Ok started) → (opened : Started) × IsRefusedFor action old new reason opened
+pub refused_so : OpensInOneWay → (old new : Contents) (started : Started) (action : Action) (reason : Refusal) → IsOpening old (Ok started) → (opened : Started) × IsRefusedFor action old new reason opened
     → history_after (history_of started.session) action ≡ Err reason
 refused_so one old new started action reason opens refused =
     ap (λ (x : Started). history_after (history_of x.session) action) (one old started refused.0 opens refused.1.0.opens) ∙ refused_after refused.0.session action reason refused.1.1
 
 -- ---- all of them
 
-pub runs_go : OneStart → (old new : Contents) (started : Started) (requested done : List Action) → IsOpening old (Ok started) → Runs old requested done new
-    → (end : Started) × Execution (history_of started.session) done (length done) (history_of end.session) × IsOpening new (Ok end)
+pub runs_go : OpensInOneWay → KeepOneHistory
 runs_go one old new started _ _ opens Ended = (started, history.Ended, opens)
 runs_go one old new started _ _ opens (Effective {action = action} {requested = requested} {done = done} effect rest) =
     let next = effective one old started opens action _ effect in

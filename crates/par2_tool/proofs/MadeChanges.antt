@@ -1,5 +1,5 @@
 -- Changes that were made in order in a store.
-use Rattle.par2_tool.proofs.Common.{◌≡◌, ◌<◌, ◌+◌, ℕ, zero, suc, List, [], ◌∷◌, ◌++◌, length, map, get_or, take, IsTrue, refl, sym, ap, subst, ◌∙◌, arith, ◌⊎◌, inl, inr, ◌≤◌, map_more, length-map, take_all, take-map, and_parts, Contents, with_change, with_journal, change_of, KeptSession, OnlyGrew, Kind, changes_by_kind, with_all_changes, AreSomeWritten, with_halfway_journal, IsStoppedAt, Journals}
+use Rattle.par2_tool.proofs.Common.{◌≡◌, ◌<◌, ◌+◌, ℕ, zero, suc, List, [], ◌∷◌, ◌++◌, length, map, get_or, take, IsTrue, refl, sym, ap, subst, ◌∙◌, arith, ◌⊎◌, inl, inr, map_more, length-map, take_all, take-map, and_parts, Contents, with_change, with_journal, change_of, KeptSession, OnlyGrew, Kind, changes_by_kind, with_all_changes, AreSomeWritten, with_halfway_journal, IsStoppedAt, Journals}
 use Rattle.par2_files.specs.declared.change.Change.{Change}
 use Rattle.par2_spec.specs.Changes as defined
 
@@ -38,11 +38,6 @@ pub same_changes : (old mid : KeptSession) (kind : Kind) → OnlyGrew old mid �
 same_changes old mid kind grew = grind arith
 
 -- ---- what a power cut may leave of changes that are written between two journals
-
--- all changes are made: a prefix of their full length
-pub all_crash_states : (start now left : Contents) (changes : List Change) (i : ℕ) → length changes ≤ i → now ≡ with_all_changes start (map change_of (take i changes)) → left ≡ now
-    → AreSomeWritten start (map change_of changes) left
-all_crash_states start now left changes i whole made is = grind (arith, length-map, take_all, take-map)
 
 -- the first ones were made, and the next one was or wasn't
 pub next_remains : (start now left : Contents) (changes : List Change) (i : ℕ) (item : Change) → i < length changes → item ≡ get_or changes i item → now ≡ with_all_changes start (map change_of (take i changes))

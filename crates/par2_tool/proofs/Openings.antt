@@ -1,5 +1,5 @@
 -- What a store opens as, and what a stop leaves of it.
-use Rattle.par2_tool.proofs.Common.{◌≡◌, ◌⊎◌, inl, inr, ℕ, true, IsTrue, List, take, Option, Some, None, Result, Ok, Err, refl, sym, ap, subst, ◌∙◌, arith, Vec, ◌<◌, option_map, OnErr, IfErr, IfOk, started_of, IsOpened, WasRead, IsStillHalfway, IsTakenBack, IsCounted, Holds, IsOpening, OpensAsBefore, FingerprintsDifferBack, with_history, KeepsStore, AreCallsToOpen, CountsCalls, IsHalfway, IsUnopened, OpensStore, refused_as, Global, Folder, Change, are_applicable, effects, Session, Journal, Spells, Opened, Settled, Halfway, Started, is_valid, new_session, settled_journal, started, FingerprintsDiffer, Opens, OpensAs, opened, Contents, with_journal, JournalFault, Two, settled_stored, still_stored, taken_back_leads, IsStoppedAt, OpenFault}
+use Rattle.par2_tool.proofs.Common.{◌≡◌, ◌⊎◌, inl, inr, ℕ, true, IsTrue, List, take, Option, Some, None, Result, Ok, Err, refl, sym, ap, subst, ◌∙◌, arith, Vec, ◌<◌, option_map, OnErr, OnOk, IfErr, IfOk, started_of, unopened_as, IsOpened, WasRead, IsStillHalfway, IsTakenBack, IsCounted, Holds, IsOpening, OpensAsBefore, FingerprintsDifferBack, with_history, KeepsStore, AreCallsToOpen, CountsCalls, IsHalfway, IsUnopened, OpensStore, refused_as, Global, Folder, Change, are_applicable, effects, Session, Journal, Spells, Opened, Settled, Halfway, Started, is_valid, new_session, settled_journal, started, FingerprintsDiffer, Opens, OpensAs, opened, Contents, with_journal, JournalFault, Two, settled_stored, still_stored, taken_back_leads, IsStoppedAt, OpenFault}
 use Rattle.par2_tool.proofs.MadeChanges.{all_changed_is}
 use Rattle.par2_disk.specs.Stores.{OnlyReads}
 use Rattle.par2_disk.specs.declared.view.Store.{Ghosts as StoreOf}
@@ -48,7 +48,7 @@ module _ (contents : Contents) (files : Folder) (bytes : List ℕ) (e : JournalF
   pub unopened_without : WasRead contents files (Some bytes) → (e ≡ fault.Memory) ⊎ Opens files bytes (Err e) → IfErr r (IsUnopened contents contents)
   unopened_without read refused = grind (arith, opens_read)
 
-  pub counted_without : (n : ℕ) → IfErr r (IsCounted (n < n) n n)
+  pub counted_without : (n : ℕ) → IfErr r (λ refused. IsCounted (n < n) n n (unopened_as refused))
   counted_without n = grind arith
 
 -- without a journal a store opens as a new session
@@ -104,9 +104,12 @@ opens_still old new files bytes s back read opens apart stop = inr (with_history
 pub still_halfway : (old new : Contents) (s : Session) (back : List Change) (after : Vec ℕ Global) → Spells after.items (settled_journal Two s) → IsStoppedAt old (record { halfway = None; after = after }) back new → IsStillHalfway s back old new
 still_halfway old new s back after spells h = grind arith
 
--- what holds in any case holds after a refusal
+-- what holds in any case holds after a refusal, and after a success
 pub any_err : {T E : Type 0} (r : Result T E) (P : Type 0) → P → OnErr r P
 any_err r P p = grind arith
+
+pub any_ok : {T E : Type 0} (r : Result T E) (P : Type 0) → P → OnOk r P
+any_ok r P p = grind arith
 
 -- ---- what opening does to a store that was only read, and to one that was read before
 
@@ -119,7 +122,7 @@ module _ {S T : Type 0} (store : StoreOf S) where
   pub stays_opens : (it : S) (r : Result T OpenFault) → IfErr r (IsUnopened (store.contents it) (store.contents it)) → OpensStore store it it r
   stays_opens it r refused = grind arith
 
-  pub stays_keeps : (it : S) (r : Result T OpenFault) → IfErr r (IsCounted (store.failures it < store.failures it) (store.failures it) (store.failures it)) → KeepsStore store it it r
+  pub stays_keeps : (it : S) (r : Result T OpenFault) → IfErr r (λ fault. IsCounted (store.failures it < store.failures it) (store.failures it) (store.failures it) (unopened_as fault)) → KeepsStore store unopened_as it it r
   stays_keeps it r counted = grind arith
 
   pub opens_after_reading : (old read new : S) (r : Result T OpenFault) → OnlyReads store old read → store.honest old → store.impossible read ≡ store.impossible old → OpensStore store read new r → OpensStore store old new r
@@ -134,5 +137,5 @@ module _ {S T : Type 0} (store : StoreOf S) where
         possible = opens.possible ∙ possible;
         calls =
             let counted = opens.calls in
-            (counted.0, subst (λ k. AreCallsToOpen k counted.0) same counted.1, subst (λ before. CountsCalls counted.0 before (store.writing_calls new) r) reads.unwritten counted.2);
+            (counted.0, subst (λ k. AreCallsToOpen k counted.0) same counted.1, subst (λ before. CountsCalls unopened_as counted.0 before (store.writing_calls new) r) reads.unwritten counted.2);
       }

@@ -1,5 +1,5 @@
 -- What a store is opened as for a command, and the result of an action on it.
-use Rattle.par2_tool.proofs.Common.{by_either, ◌≡◌, inl, inr, ℕ, List, Result, Ok, Err, Bool, true, false, refl, sym, ap, subst, ◌∙◌, arith, Some, None, ◌<◌, false≢true, Change, Action, Command, Do, Verify, Started, OpensAs, new_session, Session, KeptSession, session_of_kept, changes_requested, changes_unless, session_after, Contents, Memory, Plan, NothingToUndo, NothingToRedo, FingerprintsDifferAlong, OpensAsBeforeOrAfter, IsAnswer, IsWritten, IsRefused, failure_for, FingerprintsDifferBack, OpensAsBefore, with_history, IsOpened, IsUnopened, StandsFor, IsCounted, WasRead, started_of, IsVerify, unopened_as, IsBack, IsCause, IsFailed, IsStopped, IsDone, IsRefusedFor, OpenFault, PerformFault, IfOk, Folder, changes_of, LeadsToAfterRequested, refusal, report_in, Outcome, output_of, SessionFault}
+use Rattle.par2_tool.proofs.Common.{by_either, ◌≡◌, inl, inr, ℕ, List, Result, Ok, Err, Bool, true, false, refl, sym, ap, subst, ◌∙◌, arith, Some, None, false≢true, Change, Action, Command, Do, Verify, Started, OpensAs, new_session, Session, KeptSession, session_of_kept, changes_requested, changes_unless, session_after, Contents, Memory, Plan, NothingToUndo, NothingToRedo, FingerprintsDifferAlong, OpensAsBeforeOrAfter, IsAnswer, IsWritten, IsRefused, failure_for, FingerprintsDifferBack, OpensAsBefore, with_history, IsOpened, IsUnopened, StandsFor, WasRead, started_of, IsVerify, unopened_as, IsBack, IsCause, IsFailed, IsStopped, IsDone, IsRefusedFor, OpenFault, PerformFault, IfOk, Folder, changes_of, LeadsToAfterRequested, refusal, report_in, Outcome, output_of, SessionFault}
 use Rattle.par2_tool.specs.declared.performing.PerformFault.TheVariants.{Session as Refusing, Store}
 use Rattle.par2_tool.proofs.Calls.{for_verify}
 use Rattle.par2_tool.proofs.Openings.{opened_on, opens_new}
@@ -54,16 +54,16 @@ module _ (action : Action) (old mid new : Contents) (s later : KeptSession) (dro
       let none = back (at_an_end (session_of_kept s) action end is requested) in
       (session_of_kept s, (subst (λ b. IsOpened old new (record { session = session_of_kept s; dropped = b })) none (unchanged same), requested))
 
-  pub perform_failed : (before after : ℕ) (fault : PerformFault) → IsRefused action s later before after fault → ((reason : SessionFault) → fault ≡ Refusing reason → new ≡ mid)
+  pub perform_failed : (fault : PerformFault) → IsRefused action s later fault → ((reason : SessionFault) → fault ≡ Refusing reason → new ≡ mid)
       → (FingerprintsDifferAlong (session_of_kept s) action → OpensAsBeforeOrAfter (session_of_kept s) action mid new) → IsFailed action old new (failure_for fault)
   unfolding is_plan
-  perform_failed before after (Refusing (Plan reason)) refused same stopped =
+  perform_failed (Refusing (Plan reason)) refused same stopped =
       by_either refused.0 (λ memory. inl (let is : reason ≡ Memory = cc memory in is, inr (start, unchanged (same _ refl)))) (λ requested. inr (start, (unchanged (same _ refl), requested)))
-  perform_failed before after (Refusing NothingToUndo) refused same stopped =
+  perform_failed (Refusing NothingToUndo) refused same stopped =
       by_either refused.0 (λ memory. absurd (let no : ⊥ = cc memory in no)) (λ requested. ended history.NothingToUndo refl requested (same _ refl))
-  perform_failed before after (Refusing NothingToRedo) refused same stopped =
+  perform_failed (Refusing NothingToRedo) refused same stopped =
       by_either refused.0 (λ memory. absurd (let no : ⊥ = cc memory in no)) (λ requested. ended history.NothingToRedo refl requested (same _ refl))
-  perform_failed before after Store refused same stopped = stopped_command action old mid new start opened stopped
+  perform_failed Store refused same stopped = stopped_command action old mid new start opened stopped
 
 pub opening_failed : (action : Action) (old new : Contents) (fault : OpenFault) → IsUnopened old new fault → (FingerprintsDifferBack old → OpensAsBefore old new) → IsFailed action old new (unopened_as fault)
 opening_failed action old new unopened.JournalInvalid is stopped = is
@@ -73,17 +73,14 @@ opening_failed action old new unopened.Store is stopped = stopped_opening action
 
 -- ---- why, whatever the store does
 
-pub opening_cause : (action : Action) (before after : ℕ) (fault : OpenFault) → IsCounted (before < after) before after fault → IsCause action before after (unopened_as fault)
-opening_cause action before after fault counted = grind arith
+pub opening_cause : (action : Action) (fault : OpenFault) → IsCause action (unopened_as fault)
+opening_cause action fault = grind arith
 
-pub perform_cause : (action : Action) (s later : KeptSession) (before middle after : ℕ) (fault : PerformFault) → middle ≡ before → IsRefused action s later middle after fault → IsCause action before after (failure_for fault)
-perform_cause action s later before middle after (Refusing (Plan reason)) steady refused =
-    by_either refused.0 (λ memory. (inl (let is : reason ≡ Memory = cc memory in is), refused.2 ∙ steady)) (λ requested. (inr (session_of_kept s, requested), refused.2 ∙ steady))
-perform_cause action s later before middle after (Refusing NothingToUndo) steady refused =
-    by_either refused.0 (λ memory. absurd (let no : ⊥ = cc memory in no)) (λ requested. ((session_of_kept s, requested), refused.2 ∙ steady))
-perform_cause action s later before middle after (Refusing NothingToRedo) steady refused =
-    by_either refused.0 (λ memory. absurd (let no : ⊥ = cc memory in no)) (λ requested. ((session_of_kept s, requested), refused.2 ∙ steady))
-perform_cause action s later before middle after Store steady refused = omega (arith, steady, refused)
+pub perform_cause : (action : Action) (s later : KeptSession) (fault : PerformFault) → IsRefused action s later fault → IsCause action (failure_for fault)
+perform_cause action s later (Refusing (Plan reason)) refused = by_either refused.0 (λ memory. inl (let is : reason ≡ Memory = cc memory in is)) (λ requested. inr (session_of_kept s, requested))
+perform_cause action s later (Refusing NothingToUndo) refused = by_either refused.0 (λ memory. absurd (let no : ⊥ = cc memory in no)) (λ requested. (session_of_kept s, requested))
+perform_cause action s later (Refusing NothingToRedo) refused = by_either refused.0 (λ memory. absurd (let no : ⊥ = cc memory in no)) (λ requested. (session_of_kept s, requested))
+perform_cause action s later Store refused = tt
 
 -- ---- opening
 
@@ -121,19 +118,19 @@ standing s = record { folder = record { files = s.folder; vacant = 0 }; undos = 
 
 -- a verify that is refused on one session is refused on another one on the same folder
 pub verify_failed : (action : Action) (old mid new : Contents) (o : Started) (s later : KeptSession) → IsVerify action → o.session.folder ≡ s.folder.files → IsOpened old mid o → new ≡ mid
-    → (before after : ℕ) (fault : PerformFault) → IsRefused action s later before after fault → IsFailed action old new (failure_for fault)
+    → (fault : PerformFault) → IsRefused action s later fault → IsFailed action old new (failure_for fault)
 unfolding standing
-verify_failed action old mid new o s later is on opening same before after fault refused =
-    let failed : (base : List ℕ) (extras : List (List ℕ)) → IsRefused (Do (Verify base extras)) s later before after fault → IsFailed (Do (Verify base extras)) old new (failure_for fault) =
-    λ base extras refused. perform_failed (Do (Verify base extras)) old mid new (standing o.session) (standing o.session) o.dropped opening (λ back. absurd back) before after fault (refused_on base extras fault refused) (λ _ _. same) (λ _. inl same) in
-    for_verify (λ a. IsRefused a s later before after fault → IsFailed a old new (failure_for fault)) failed action is refused
+verify_failed action old mid new o s later is on opening same fault refused =
+    let failed : (base : List ℕ) (extras : List (List ℕ)) → IsRefused (Do (Verify base extras)) s later fault → IsFailed (Do (Verify base extras)) old new (failure_for fault) =
+    λ base extras refused. perform_failed (Do (Verify base extras)) old mid new (standing o.session) (standing o.session) o.dropped opening (λ back. absurd back) fault (refused_on base extras fault refused) (λ _ _. same) (λ _. inl same) in
+    for_verify (λ a. IsRefused a s later fault → IsFailed a old new (failure_for fault)) failed action is refused
   where
-    refused_on : (base : List ℕ) (extras : List (List ℕ)) (f : PerformFault) → IsRefused (Do (Verify base extras)) s later before after f → IsRefused (Do (Verify base extras)) (standing o.session) (standing o.session) before after f
+    refused_on : (base : List ℕ) (extras : List (List ℕ)) (f : PerformFault) → IsRefused (Do (Verify base extras)) s later f → IsRefused (Do (Verify base extras)) (standing o.session) (standing o.session) f
     refused_on base extras Store r = r
     refused_on base extras (Refusing reason) r =
         by_either r.0
-        (λ memory. (inl memory, as_it_was (standing o.session), r.2))
-        (λ requested. (inr (same_requested o.session (session_of_kept s) (Verify base extras) on ∙ requested), as_it_was (standing o.session), r.2))
+        (λ memory. (inl memory, as_it_was (standing o.session)))
+        (λ requested. (inr (same_requested o.session (session_of_kept s) (Verify base extras) on ∙ requested), as_it_was (standing o.session)))
 
 -- ---- an accepted action
 

@@ -21,7 +21,7 @@ module _ {S : Type 0} (store : StoreOf S) (words : List (List ℕ)) (old new : S
 
   result_by : (result : RunResult) → store.honest old → IsResult store verify old new result → store.writing_calls new ≡ store.writing_calls old
   result_by (Answered dropped outcome) honest is = let done = is.2 honest in let zero = run_by done.1 done.2 in omega (arith, zero, done.3)
-  result_by (Failed spoken reason) honest is = failed_by reason (is.2 honest).1
+  result_by (Failed spoken reason) honest is = failed_by reason (is.3 honest).1
 
   -- a verify makes none where no command is halfway
   pub verify_makes_none : AskFor words verify → (result : RunResult) → store.honest old → IsRunResult store words old new result → store.writing_calls new ≡ store.writing_calls old

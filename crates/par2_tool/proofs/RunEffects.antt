@@ -1,10 +1,9 @@
-use Rattle.par2_tool.proofs.Common.{◌≡◌, ◌≢◌, ◌⊎◌, inl, inr, ℕ, ◌<◌, Bool, List, Some, Ok, Err, refl, sym, ap, subst, ◌∙◌, arith, Action, Command, Do, Repair, Folder, Started, Contents, Outcome, status_of, status_of_fault, status_of_failure, Fault, Memory, IsOpening, with_history, IsOpened, OnlyTakesBack, FingerprintsDifferInRun, Answered, Failed, IsDone, IsFailed, IsUnread, RunResult, AskFor, HasNoEffect, TakesEffect, AskForRepair, IsRunResult, IsStopped, Session, changes_requested, Failure, Refused, Store, JournalInvalid, FolderChanged, refusal, HoldsAfter}
+use Rattle.par2_tool.proofs.Common.{◌≡◌, ◌≢◌, ◌⊎◌, inl, inr, ℕ, ◌<◌, Bool, List, Some, Ok, Err, refl, sym, ap, subst, ◌∙◌, arith, Action, Command, Do, Repair, Folder, Started, Contents, Outcome, status_of, status_of_fault, status_of_failure, Fault, Memory, IsOpening, with_history, IsOpened, OnlyTakesBack, FingerprintsDifferInRun, Answered, Failed, IsDone, IsFailed, IsUnread, RunResult, AskFor, HasNoEffect, TakesEffect, AskForRepair, IsRunResult, IsStopped, Session, changes_requested, Failure, Refused, Store, JournalInvalid, FolderChanged, refusal, HoldsAfter, OpensInOneWay}
 use Rattle.par2_spec.specs.declared.Failure.TheVariants.{Arguments}
 use Rattle.par2_spec.specs.declared.Failure.TheVariants.{NothingToUndo, NothingToRedo}
 use Rattle.par2_spec.specs.History as history
 use Rattle.par2_laws.proofs.RepairAnswers.{IsRepaired, is_repaired}
 use Rattle.par2_disk.specs.declared.view.Store.{Ghosts as StoreOf}
-use Rattle.par2_tool.proofs.History.{OneStart}
 use Rattle.par2_tool.proofs.Statuses.{own_status, failure_is_reported}
 
 -- What a run did to the store by its words and its status.
@@ -67,7 +66,7 @@ leaves_of store words action old new requested (Answered dropped outcome) (inl (
     subst (λ a. IsDone a (store.contents old) (store.contents new) dropped outcome) (one_action words other action also requested) (is.2 honest).0
 leaves_of store words action old new requested (Answered dropped outcome) (inr (reason, never, unread, same)) honest = absurd (let no : ⊥ = cc never in no)
 leaves_of store words action old new requested (Failed spoken reason) (inl (other, also, is)) honest =
-    inr (subst (λ a. IsFailed a (store.contents old) (store.contents new) reason) (one_action words other action also requested) (is.2 honest).0)
+    inr (subst (λ a. IsFailed a (store.contents old) (store.contents new) reason) (one_action words other action also requested) (is.3 honest).0)
 leaves_of store words action old new requested (Failed spoken reason) (inr (why, is, unread, same)) honest =
     let alike : why ≡ reason = cc is in inl (subst (IsUnread words) alike unread, ap store.contents same)
 
@@ -85,7 +84,7 @@ pub record IsRefused (folder : Folder) (old new : Contents) (command : Command) 
   pub files : new.files ≡ folder
   pub left : OnlyTakesBack old new
 
-module _ (one : OneStart) (words : List (List ℕ)) (old new : Contents) (folder : Folder) (base : List ℕ) (extras : List (List ℕ)) (asks : AskForRepair words old folder base extras) where
+module _ (one : OpensInOneWay) (words : List (List ℕ)) (old new : Contents) (folder : Folder) (base : List ℕ) (extras : List (List ℕ)) (asks : AskForRepair words old folder base extras) where
   abbrev pub command : Command
   command = Repair base extras asks.purge
 

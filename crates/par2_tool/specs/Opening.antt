@@ -1,5 +1,6 @@
 -- The session that a store opens as and what opening does to the store, or why it isn't opened.
-use Rattle.std.specs.Prelude.{◌≡◌, ◌⊎◌, ◌<◌, ◌≤◌, ◌+◌, ℕ, List, [], ◌∷◌, length, take, Option, Some, Result, Ok, Err, IfErr, IfOk, IsTrue, OnErr, OnOk, false, true}
+use Rattle.std.specs.Prelude.{◌≡◌, ◌⊎◌, ◌<◌, ◌≤◌, ◌+◌, ℕ, List, [], ◌∷◌, length, take, Option, Some, Result, Ok, Err, IfErr, IfOk, IsSomeAnd, IsTrue, OnErr, OnOk, false, true}
+use Rattle.std.specs.Borrow.{Bor}
 use Rattle.par2_spec.specs.Changes.{Change, are_applicable}
 use Rattle.par2_spec.specs.Commands.{Action, Do, Verify}
 use Rattle.par2_spec.specs.Folders.{Folder}
@@ -7,9 +8,11 @@ use Rattle.par2_spec.specs.Journals.{Spells}
 use Rattle.par2_spec.specs.Opening.{Started, OpensAs, Opens, Halfway, FingerprintsDiffer, settled_journal}
 use Rattle.par2_spec.specs.Sessions.{Session, session_of_kept}
 use Rattle.par2_spec.specs.Stores.{Contents, with_change, with_journal}
+use Rattle.par2_spec.specs.Views.{command_of}
 use Rattle.par2_spec.specs.declared.Failure.{Failure}
 use Rattle.par2_spec.specs.declared.Failure.TheVariants as failure
 use Rattle.par2_spec.specs.declared.Fault.TheVariants as reason
+use Rattle.par2_spec.specs.declared.commands.Command.{Command}
 use Rattle.par2_spec.specs.declared.JournalFault.{JournalFault}
 use Rattle.par2_spec.specs.declared.JournalFault.TheVariants as journal
 use Rattle.par2_spec.specs.declared.Version.TheVariants.{Two}
@@ -125,9 +128,18 @@ abbrev pub IsVerify : Action → Type 0
 IsVerify (Do (Verify base extras)) = Unit {0}
 IsVerify action = ⊥
 
+-- the command, if there is one, is a verify
+abbrev pub IsVerifyGiven : Option (Bor Command) → Type 0
+IsVerifyGiven command = IsSomeAnd command (λ given. IsVerify (command_of given.now))
+
 -- a command has the same outcome on both: they are equal, or it is a verify and their folders are equal
 abbrev pub StandsFor : Type 0 → Started → Started → Type 0
 StandsFor Verifies opened started = (opened ≡ started) ⊎ (Verifies × (opened.session.folder ≡ started.session.folder))
+
+-- the result stands for what an honest store was opened as
+abbrev pub OpensFor : {S : Type 0} → StoreOf S → S → S → Type 0 → program.Started → Type 0
+OpensFor store old new Verifies started =
+    (opened : Started) × StandsFor Verifies opened (started_of started) × (store.honest old → IsOpened (store.contents old) (store.contents new) opened)
 
 -- ---- a store that isn't opened
 
@@ -156,27 +168,27 @@ unopened_as Memory = failure.Refused reason.Memory
 unopened_as JournalInvalid = failure.JournalInvalid
 unopened_as FolderChanged = failure.FolderChanged
 
--- a count before and after a fault: `failed` says it of a failure of the store, and any other fault leaves it
-abbrev pub IsCounted : (failed : Type 0) (before after : ℕ) → OpenFault → Type 0
-IsCounted failed before after Store = failed
-IsCounted failed before after fault = after ≡ before
+-- a count before and after a failure: `failed` says it of a failure of the store, and any other one leaves it
+abbrev pub IsCounted : (failed : Type 0) (before after : ℕ) → Failure → Type 0
+IsCounted failed before after failure.Store = failed
+IsCounted failed before after reason = after ≡ before
 
--- an opening makes this number of writing calls, or at most that many if the store fails
-pub record CountsCalls {T : Type 0} (calls before after : ℕ) (result : Result T OpenFault) : Type 0 where
-  pub opened : OnOk result (after ≡ before + calls)
-  pub refused : IfErr result (IsCounted (AreAtMost calls before after) before after)
+-- this number of writing calls is made, or at most that many if the store fails, and none after any other fault
+pub record CountsCalls {T E : Type 0} (report : E → Failure) (calls before after : ℕ) (result : Result T E) : Type 0 where
+  pub done : OnOk result (after ≡ before + calls)
+  pub refused : IfErr result (λ fault. IsCounted (AreAtMost calls before after) before after (report fault))
 
 -- the writing calls of an opening: none; or, to take a command back, one for each change and one for the journal
 abbrev pub AreCallsToOpen : Contents → ℕ → Type 0
 AreCallsToOpen contents calls =
     (calls ≡ 0) ⊎ ((session : Session) × (back : List Change) × IsHalfway contents session back × (calls ≡ length back + 1))
 
--- an opening of any store: it stays honest, what was durable stays so, and only a failure of the store is counted
-pub record KeepsStore {S T : Type 0} (store : StoreOf S) (old new : S) (result : Result T OpenFault) : Type 0 where
+-- a call on any store: it stays honest, what was durable stays so, and only a failure of the store is counted
+pub record KeepsStore {S T E : Type 0} (store : StoreOf S) (report : E → Failure) (old new : S) (result : Result T E) : Type 0 where
   pub honest : store.honest old → store.honest new
   pub kept : StaysKept store old new result
   pub later : store.failures old ≤ store.failures new
-  pub counted : IfErr result (IsCounted (store.failures old < store.failures new) (store.failures old) (store.failures new))
+  pub counted : IfErr result (λ fault. IsCounted (store.failures old < store.failures new) (store.failures old) (store.failures new) (report fault))
   pub steady : OnOk result (store.failures new ≡ store.failures old)
 
 -- an opening of an honest store: why it fails, that a failure or a power cut leaves one that opens as before, its calls
@@ -185,7 +197,7 @@ pub record OpensStore {S T : Type 0} (store : StoreOf S) (old new : S) (result :
   pub stopped : FingerprintsDifferBack (store.contents old) → OnErr result (OpensAsBefore (store.contents old) (store.contents new))
   pub cut : ContentsAreDurable store old → FingerprintsDifferBack (store.contents old) → (left : Contents) → store.crash_states new left → OpensAsBefore (store.contents old) left
   pub possible : store.impossible new ≡ store.impossible old
-  pub calls : (calls : ℕ) × AreCallsToOpen (store.contents old) calls × CountsCalls calls (store.writing_calls old) (store.writing_calls new) result
+  pub calls : (calls : ℕ) × AreCallsToOpen (store.contents old) calls × CountsCalls unopened_as calls (store.writing_calls old) (store.writing_calls new) result
 
 -- a halfway command is taken back in an honest store: its contents afterwards, after a failure, and after a power cut
 pub record TakesWayBack {S T : Type 0} (store : StoreOf S) (old new : S) (session : Session) (back : List Change) (result : Result T OpenFault) : Type 0 where
@@ -194,4 +206,4 @@ pub record TakesWayBack {S T : Type 0} (store : StoreOf S) (old new : S) (sessio
   pub remains : ContentsAreDurable store old → (left : Contents) → store.crash_states new left → IsStillHalfway session back (store.contents old) left
   pub refused : IfErr result (IsUnopened (store.contents old) (store.contents new))
   pub possible : IsTrue (are_applicable (store.contents old).files back) → store.impossible new ≡ store.impossible old
-  pub calls : CountsCalls (length back + 1) (store.writing_calls old) (store.writing_calls new) result
+  pub calls : CountsCalls unopened_as (length back + 1) (store.writing_calls old) (store.writing_calls new) result

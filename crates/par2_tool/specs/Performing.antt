@@ -1,25 +1,32 @@
 -- A command on an opened store: its outcome, its refusals, and how its changes are written to the store.
-use Rattle.std.specs.Prelude.{◌≡◌, ◌⊎◌, ◌<◌, ◌+◌, ℕ, List, [], length, map, Option, Some, None, Vec, Result, Ok, Err, IfOk, IsTrue, OnErr, OnOk}
+use Rattle.std.specs.Prelude.{◌≡◌, ◌⊎◌, ◌+◌, ℕ, List, [], length, map, take, Option, Some, None, Vec, Result, Ok, Err, IfOk, IsErrOf, IsTrue, OnErr, OnOk}
 use Rattle.std.specs.declared.alloc.Global.{Global}
-use Rattle.par2_spec.specs.Changes.{Change, are_applicable}
-use Rattle.par2_spec.specs.Commands.{Action, Do, Verify}
+use Rattle.par2_spec.specs.Changes.{Change, are_applicable, effects}
+use Rattle.par2_spec.specs.Commands.{Action, Do, Undo, Redo, Verify}
 use Rattle.par2_spec.specs.Opening.{FingerprintsDiffer}
 use Rattle.par2_spec.specs.Plans.{LeadsToAfterRequested}
+use Rattle.par2_spec.specs.Refusals.{early_refusal_of}
 use Rattle.par2_spec.specs.Reports.{Report, report_in}
-use Rattle.par2_spec.specs.Sessions.{Session, KeptSession, OnlyGrew, changes_requested, session_after}
+use Rattle.par2_spec.specs.Sessions.{Session, KeptSession, OnlyGrew, changes_requested, session_after, session_of_kept}
 use Rattle.par2_spec.specs.Stores.{Contents, with_journal}
 use Rattle.par2_spec.specs.Output.{Outcome, Reported, Done, step_of}
+use Rattle.par2_spec.specs.Views.{command_of}
 use Rattle.par2_spec.specs.declared.Failure.{Failure}
 use Rattle.par2_spec.specs.declared.Failure.TheVariants as failure
+use Rattle.par2_spec.specs.declared.Fault.{Fault}
+use Rattle.par2_spec.specs.declared.commands.Command.{Command}
+use Rattle.par2_disk.specs.Stores.{CountsFailures}
 use Rattle.par2_disk.specs.declared.store.StoreFault.{StoreFault}
 use Rattle.par2_disk.specs.declared.view.Store.{Ghosts as StoreOf}
 use Rattle.par2_files.specs.ChangeViews.{change_of}
 use Rattle.par2_files.specs.declared.change.Change as written
 use Rattle.par2_repair.specs.ReportViews.{report_view}
+use Rattle.par2_journal.specs.Commands.{IsAfter, LeadsFrom}
 use Rattle.par2_journal.specs.SessionRefusals.{MayRefuse}
+use Rattle.par2_journal.specs.declared.preparation.SessionFault.{SessionFault}
 use Rattle.par2_journal.specs.declared.preparation.SessionFault.TheVariants.{Plan, NothingToUndo, NothingToRedo}
 use Rattle.par2_journal.specs.declared.spelling.Journals.{Journals}
-use Rattle.par2_tool.specs.Opening.{IsOpening, Holds, HoldsJournaled, with_history, with_all_changes, AreSomeWritten, AreAtMost, ContentsAreDurable}
+use Rattle.par2_tool.specs.Opening.{IsOpening, Holds, HoldsJournaled, with_history, with_all_changes, AreSomeWritten, ContentsAreDurable, CountsCalls, IsVerify}
 use Rattle.par2_tool.specs.declared.performing.Outcome as performing
 use Rattle.par2_tool.specs.declared.performing.Outcome.TheVariants as outcome
 use Rattle.par2_tool.specs.declared.performing.PerformFault.{PerformFault}
@@ -39,11 +46,22 @@ IsAnswer session (Do (Verify base extras)) outcome =
 IsAnswer session action outcome =
     (changes : List Change) × (changes_requested session action ≡ Ok changes) × (outcome ≡ Done (map step_of changes))
 
--- the session refuses, for the cause that par2_spec names or because memory ran out, it stays as it was, and no failure
--- of the store is counted; or the store failed
-abbrev pub IsRefused : Action → KeptSession → KeptSession → ℕ → ℕ → PerformFault → Type 0
-IsRefused action old new before after (fault.Session reason) = MayRefuse action old reason × OnlyGrew old new × (after ≡ before)
-IsRefused action old new before after fault.Store = before < after
+-- an action is accepted: the session becomes the one after it, its changes lead to its folder, and the outcome is its own
+pub record IsPerformed (action : Action) (old new : KeptSession) (outcome : performing.Outcome) : Type 0 where
+  pub after : IsAfter action old new
+  pub leads : LeadsFrom action old
+  pub answer : IsAnswer (session_of_kept old) action (outcome_of outcome)
+
+-- the session refuses, for the cause that par2_spec names or for memory, and stays as it was; or the store failed
+abbrev pub IsRefused : Action → KeptSession → KeptSession → PerformFault → Type 0
+IsRefused action old new (fault.Session reason) = MayRefuse action old reason × OnlyGrew old new
+IsRefused action old new fault.Store = Unit {0}
+
+-- refusals that need no memory come before any is allocated
+pub record RefusesAtOnce {T : Type 0} (action : Action) (session : KeptSession) (result : Result T PerformFault) : Type 0 where
+  pub early : (reason : Fault) → early_refusal_of session.folder.files action ≡ Some reason → IsErrOf result (fault.Session (Plan reason))
+  pub nothing_to_undo : action ≡ Undo → session.undos ≡ [] → IsErrOf result (fault.Session NothingToUndo)
+  pub nothing_to_redo : action ≡ Redo → session.redos ≡ [] → IsErrOf result (fault.Session NothingToRedo)
 
 -- the failure that is reported of a command
 abbrev pub failure_for : PerformFault → Failure
@@ -73,14 +91,34 @@ abbrev pub OpensAsBeforeOrAfter : Session → Action → Contents → Contents �
 OpensAsBeforeOrAfter session action old new =
     (new ≡ old) ⊎ (IsOpening new (Ok (with_history session)) ⊎ HoldsAfter session action new)
 
+-- the store is honest, and its folder is the session's
+pub record IsOn {S : Type 0} (store : StoreOf S) (it : S) (session : KeptSession) : Type 0 where
+  pub honest : store.honest it
+  pub files : (store.contents it).files ≡ session.folder.files
+
+-- what a command does to the store: nothing if it is a verify or is refused; otherwise it holds the session afterwards. After
+-- a failure or a power cut at any moment it opens as before or after, and a failure leaves a prefix of the changes
+pub record ActsOn {S T : Type 0} (store : StoreOf S) (command : Command) (old new : S) (before after : KeptSession) (result : Result T PerformFault) : Type 0 where
+  pub verify : IsVerify (command_of command) → (new ≡ old) × (after ≡ before)
+  pub unchanged : (reason : SessionFault) → IsErrOf result (fault.Session reason) → new ≡ old
+  pub written : IsOn store old before → OnOk result (IsWritten (command_of command) (session_of_kept after) (store.contents old) (store.contents new))
+  pub stopped : IsOn store old before → FingerprintsDifferAlong (session_of_kept before) (command_of command) → OnErr result (OpensAsBeforeOrAfter (session_of_kept before) (command_of command) (store.contents old) (store.contents new))
+  pub cut : IsOn store old before → ContentsAreDurable store old → FingerprintsDifferAlong (session_of_kept before) (command_of command) → (left : Contents) → store.crash_states new left → OpensAsBeforeOrAfter (session_of_kept before) (command_of command) (store.contents old) left
+  pub in_order : store.honest old → OnErr result (IfOk (changes_requested (session_of_kept before) (command_of command)) (λ changes. (n : ℕ) × ((store.contents new).files ≡ effects (store.contents old).files (take n changes))))
+  pub possible : IsOn store old before → store.impossible new ≡ store.impossible old
+
 -- ---- how changes are written between two journals
 
--- writing calls, in order, lead to these contents. A failure or a power cut leaves some contents in between
-pub record WritesInOrder {S : Type 0} (store : StoreOf S) (old new : S) (after : Contents) (IsBetween : Contents → Type 0) (result : Result (Unit {0}) StoreFault) : Type 0 where
+-- `number` writing calls lead to these contents, and none is impossible if these changes apply. A failure or a power cut
+-- leaves some contents in between
+pub record WritesInOrder {S : Type 0} (store : StoreOf S) (old new : S) (after : Contents) (IsBetween : Contents → Type 0) (changes : List Change) (number : ℕ) (result : Result (Unit {0}) StoreFault) : Type 0 where
   pub honest : store.honest old → store.honest new
   pub done : store.honest old → OnOk result (store.contents new ≡ after)
   pub stopped : store.honest old → OnErr result (IsBetween (store.contents new))
   pub remains : store.honest old → ContentsAreDurable store old → (left : Contents) → store.crash_states new left → IsBetween left
+  pub failures : CountsFailures store.failures old new result
+  pub possible : store.honest old → IsTrue (are_applicable (store.contents old).files changes) → store.impossible new ≡ store.impossible old
+  pub calls : CountsCalls (λ _. failure.Store) number (store.writing_calls old) (store.writing_calls new) result
 
 -- the contents with the journal that is put before the changes, if there is one
 abbrev pub with_halfway_journal : Contents → Option (Vec ℕ Global) → Contents
@@ -96,22 +134,24 @@ abbrev pub IsStoppedAt : Contents → Journals → List Change → Contents → 
 IsStoppedAt old journals changes new =
     (new ≡ old) ⊎ (AreSomeWritten (with_halfway_journal old journals.halfway) changes new ⊎ (new ≡ after_write_down old journals changes))
 
--- if all changes apply, no call is impossible
-abbrev pub AllPossible : {S : Type 0} → StoreOf S → S → S → List written.Change → Type 0
-AllPossible store old new changes =
-    store.honest old → IsTrue (are_applicable (store.contents old).files (map change_of changes)) → store.impossible new ≡ store.impossible old
-
--- `number` writing calls are made; if one fails, at most that many
-pub record CountsWrites {S : Type 0} (store : StoreOf S) (old new : S) (number : ℕ) (result : Result (Unit {0}) StoreFault) : Type 0 where
-  pub calls : OnOk result (store.writing_calls new ≡ store.writing_calls old + number)
-  pub at_most : AreAtMost number (store.writing_calls old) (store.writing_calls new)
-
 -- the number of calls that put the halfway journal: one if there is one
 abbrev pub calls_before : Option (Vec ℕ Global) → ℕ
 calls_before None = 0
 calls_before (Some bytes) = 1
 
--- the calls for the requested changes: one for each, and one for each journal, of which there are two if there are any
+-- the halfway journal is put, if there is one
+abbrev pub Begins : {S : Type 0} → StoreOf S → S → S → Option (Vec ℕ Global) → Result (Unit {0}) StoreFault → Type 0
+Begins store old new halfway result =
+    let contents = store.contents old in let after = with_halfway_journal contents halfway in
+    WritesInOrder store old new after (λ left. (left ≡ contents) ⊎ (left ≡ after)) [] (calls_before halfway) result
+
+-- the changes are made between the two journals
+abbrev pub WritesDown : {S : Type 0} → StoreOf S → S → S → Journals → List written.Change → Result (Unit {0}) StoreFault → Type 0
+WritesDown store old new journals changes result =
+    let contents = store.contents old in let all = map change_of changes in
+    WritesInOrder store old new (after_write_down contents journals all) (IsStoppedAt contents journals all) all (calls_before journals.halfway + (length changes + 1)) result
+
+-- the calls for the requested changes: one for each, and one for each journal: two, or one if there are no changes
 abbrev pub calls_unless : {F : Type 0} → Result (List Change) F → ℕ
 calls_unless (Ok []) = 1
 calls_unless (Ok changes) = length changes + 2

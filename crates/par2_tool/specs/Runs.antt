@@ -1,26 +1,33 @@
 -- A whole run: what its words ask for, what it prints and returns, and its effect on the store; and runs on one store.
 use Rattle.std.specs.List.{AllByRecursion}
-use Rattle.std.specs.Prelude.{◌≡◌, ◌⊎◌, ◌<◌, ◌+◌, ℕ, Bool, List, [], ◌∷◌, length, replicate, Option, Some, Ok, Err, true}
+use Rattle.std.specs.Prelude.{◌≡◌, ◌≢◌, ◌⊎◌, ◌<◌, ◌+◌, ℕ, Bool, List, [], ◌∷◌, length, map, replicate, Option, Some, Ok, Err, String, string_bytes, true}
+use Rattle.std.specs.declared.alloc.Global.{Global}
+use Rattle.std.specs.declared.io.ErrorKind.{ErrorKind}
+use Rattle.std.specs.declared.io.ErrorKind.TheVariants as kind
 use Rattle.clap.specs.Words.{Text, fault_of, takes}
-use Rattle.par2_spec.specs.Commands.{Action, Do, Repair, Undo}
-use Rattle.par2_spec.specs.Folders.{Folder}
+use Rattle.par2_spec.specs.Changes.{Change}
+use Rattle.par2_spec.specs.Commands.{Action, CreateArgs, Do, Repair, Undo, Verify}
+use Rattle.par2_spec.specs.Folders.{File, Folder}
 use Rattle.par2_spec.specs.History as history
 use Rattle.par2_spec.specs.Opening.{Started}
 use Rattle.par2_spec.specs.Output.{Outcome, output_of, error_of, status_of, status_of_failure}
 use Rattle.par2_spec.specs.Plans.{LeadsToAfterRequested}
-use Rattle.par2_spec.specs.Sessions.{Session, changes_requested, session_after}
+use Rattle.par2_spec.specs.Sessions.{Session, changes_requested, history_of, session_after}
 use Rattle.par2_spec.specs.Stores.{Contents}
 use Rattle.par2_spec.specs.declared.Failure.{Failure}
 use Rattle.par2_spec.specs.declared.Failure.TheVariants as failure
 use Rattle.par2_spec.specs.declared.Fault.TheVariants as fault
 use Rattle.par2_spec.specs.declared.JournalFault.TheVariants as journal
+use Rattle.par2_laws.specs.Answers.{HasFiles, KeepsFiles, OthersAgree}
+use Rattle.par2_laws.specs.Creates.{FollowsCreate, HaveAChoice}
+use Rattle.par2_laws.specs.Premises.{IsTrueTo}
 use Rattle.par2_arguments.specs.Definition.{par2_app}
 use Rattle.par2_arguments.specs.Meanings.{requested_by}
 use Rattle.par2_disk.specs.declared.view.Store.{Ghosts as StoreOf}
 use Rattle.par2_output.specs.PrintedValues.{words_requested}
 use Rattle.par2_output.specs.PrinterStates.{IsFlushed, PrinterTookAll, TookInVain, PrinterTookPart}
 use Rattle.par2_output.specs.declared.printer.Printer.{Printer}
-use Rattle.par2_tool.specs.Opening.{IsOpening, IsOpened, with_history, AreAtMost, AreCallsToOpen, FingerprintsDifferBack}
+use Rattle.par2_tool.specs.Opening.{IsOpening, IsOpened, IsHalfway, IsSettled, OnlyTakesBack, ContentsAreDurable, with_history, AreAtMost, AreCallsToOpen, FingerprintsDifferBack, IsCounted}
 use Rattle.par2_tool.specs.Performing.{IsAnswer, IsWritten, HoldsAfter, FingerprintsDifferAlong, calls_requested}
 
 -- the words request this action, and clap finds no fault with them
@@ -40,6 +47,11 @@ pub record AskForRepair (words : List (List ℕ)) (contents : Contents) (folder 
 abbrev pub IsUnread : List Text → Failure → Type 0
 IsUnread words reason =
     ((reason ≡ failure.Arguments) × (takes par2_app words ≡ true → (action : Action) → requested_by words ≡ Some action → ⊥)) ⊎ (reason ≡ failure.Refused fault.Memory)
+
+-- the failure if the runtime can't pass the words on, by the kind of its error
+unfoldable pub failure_of_kind : ErrorKind → Failure
+failure_of_kind kind.OutOfMemory = failure.Refused fault.Memory
+failure_of_kind _ = failure.Arguments
 
 -- the store was opened, and the action had this outcome on the session that it opens as, and its effect on the store
 pub record IsDone (action : Action) (old new : Contents) (dropped : Bool) (outcome : Outcome) : Type 0 where
@@ -76,8 +88,7 @@ pub record FingerprintsDifferInRun (action : Action) (contents : Contents) : Typ
   pub back : FingerprintsDifferBack contents
   pub along : (started : Started) → IsOpening contents (Ok started) → FingerprintsDifferAlong started.session action
 
--- a stopped run: if different folders on the way have different fingerprints, the store is as it was, or opens as the
--- session that it opened as, or holds the session after the action
+-- a stopped run, if fingerprints differ: the store is as it was, opens as before, or holds the session after the action
 abbrev pub IsStopped : Action → Contents → Contents → Type 0
 IsStopped action old new =
     FingerprintsDifferInRun action old
@@ -112,18 +123,13 @@ pub data RunResult : Type 0 where
   Answered : Bool → Outcome → RunResult
   Failed : List (List ℕ) → Failure → RunResult
 
--- why an action fails, whatever the store does: memory ran out; the cause that par2_spec names, on some session; the
--- journal that was read; or the store failed, and only that is counted
-abbrev pub IsCause : Action → ℕ → ℕ → Failure → Type 0
-IsCause action before after (failure.Refused reason) =
-    ((reason ≡ fault.Memory) ⊎ ((session : Session) × (changes_requested session action ≡ Err (history.Refused reason)))) × (after ≡ before)
-IsCause action before after failure.NothingToUndo =
-    ((session : Session) × (changes_requested session action ≡ Err history.NothingToUndo)) × (after ≡ before)
-IsCause action before after failure.NothingToRedo =
-    ((session : Session) × (changes_requested session action ≡ Err history.NothingToRedo)) × (after ≡ before)
-IsCause action before after failure.Store = before < after
-IsCause action before after failure.Arguments = ⊥
-IsCause action before after reason = after ≡ before
+-- why an action fails, whatever the store does: memory; the cause that par2_spec names, on some session; journal or store
+abbrev pub IsCause : Action → Failure → Type 0
+IsCause action (failure.Refused reason) = (reason ≡ fault.Memory) ⊎ ((session : Session) × (changes_requested session action ≡ Err (history.Refused reason)))
+IsCause action failure.NothingToUndo = (session : Session) × (changes_requested session action ≡ Err history.NothingToUndo)
+IsCause action failure.NothingToRedo = (session : Session) × (changes_requested session action ≡ Err history.NothingToRedo)
+IsCause action failure.Arguments = ⊥
+IsCause action reason = Unit {0}
 
 -- the result of an action on a store: the outcome, on some session, or the cause, whatever the store does; and, on an
 -- honest store, its effect and the number of calls. Once the store has failed, Store is the only result
@@ -133,7 +139,8 @@ IsResult store action old new (Answered dropped outcome) =
     × (store.honest old → IsDone action (store.contents old) (store.contents new) dropped outcome
     × (calls : ℕ) × AreCallsToRun action (store.contents old) calls × (store.writing_calls new ≡ store.writing_calls old + calls))
 IsResult store action old new (Failed spoken reason) =
-    (spoken ≡ words_requested action) × IsCause action (store.failures old) (store.failures new) reason
+    (spoken ≡ words_requested action) × IsCause action reason
+    × IsCounted (store.failures old < store.failures new) (store.failures old) (store.failures new) reason
     × (store.honest old → IsFailed action (store.contents old) (store.contents new) reason
     × CountsFailedRun action (store.contents old) (store.writing_calls old) (store.writing_calls new) reason)
 
@@ -171,15 +178,13 @@ TakesEffect action old new =
     ((dropped : Bool) × (outcome : Outcome) × IsDone action old new dropped outcome)
     ⊎ ((started : Started) × IsOpening old (Ok started) × HoldsAfter started.session action new)
 
--- a run has no effect: it does nothing to the store, or leaves one that opens as the same session as before. It is
--- refused, runs out of memory, or is stopped
+-- a run has no effect: it does nothing to the store, or leaves one that opens as the same session as before
 abbrev pub HasNoEffect : Contents → Contents → Type 0
 HasNoEffect old new =
     (new ≡ old)
     ⊎ ((started left : Started) × IsOpening old (Ok started) × IsOpening new (Ok left) × (left.session ≡ started.session))
 
--- runs of the requested actions lead from one contents to the other. The actions in `done` take effect, in order; the
--- others have none
+-- runs of the requested actions lead from one contents to the other; those in `done`, in order, take effect, and no others
 pub data Runs : Contents → List Action → List Action → Contents → Type 0 where
   Ended : {k : Contents} → Runs k [] [] k
   Effective : {k next end : Contents} {action : Action} {requested done : List Action} → TakesEffect action k next → Runs next requested done end → Runs k (action ∷ requested) (action ∷ done) end
@@ -204,3 +209,56 @@ pub record IsOneUndoFrom (folder : Folder) (store : Contents) : Type 0 where
   pub left : length done ≡ undone + 1
   pub more : List Action
   pub undos : Runs mid more (replicate undone Undo) store
+
+-- ---- what the runs of a store have in common
+
+-- a store opens as one session only
+abbrev pub OpensInOneWay : Type 0
+OpensInOneWay = (contents : Contents) (a b : Started) → IsOpening contents (Ok a) → IsOpening contents (Ok b) → a ≡ b
+
+-- runs on one store have the history of one session that does the actions that take effect
+abbrev pub KeepOneHistory : Type 0
+KeepOneHistory =
+    (old new : Contents) (started : Started) (requested done : List Action) → IsOpening old (Ok started) → Runs old requested done new
+    → (end : Started) × history.Execution (history_of started.session) done (length done) (history_of end.session) × IsOpening new (Ok end)
+
+-- after commands that took effect and as many undos, a store opens on the folder from before, with the same older ones
+abbrev pub LeadBackAsOpened : Type 0
+LeadBackAsOpened =
+    (old mid new : Contents) (started : Started) (requested done more : List Action) → IsOpening old (Ok started) → Runs old requested done mid
+    → AllByRecursion history.IsChanging done → Runs mid more (replicate (length done) Undo) new
+    → (end : Started) × IsOpening new (Ok end) × (history.folders (history_of end.session) ≡ history.folders (history_of started.session))
+
+-- ---- what a run on an honest store achieves, by its words and the status that it returns
+
+module _ {S : Type 0} (store : StoreOf S) (words : List (String Global)) (old new : S) (status : ℕ) where
+  -- a repair. If its set was made from certain files and no checksum collides (`IsTrueTo`): status 0 leaves each of them, no
+  -- rebuilt file has a wrong digest (never 5), and with too few slices (2) other ones, too, agree with what is found. After 2,
+  -- for any set, the store is as it was opened
+  pub record RepairsFiles : Type 0 where
+    pub restored : (folder : Folder) (base : List ℕ) (extras : List (List ℕ)) (originals : List File) (s : ℕ) → AskForRepair (map string_bytes words) (store.contents old) folder base extras → IsTrueTo folder base extras originals s → status ≡ 0 → HasFiles originals (store.contents new).files
+    pub right : (folder : Folder) (base : List ℕ) (extras : List (List ℕ)) (originals : List File) (s : ℕ) → AskForRepair (map string_bytes words) (store.contents old) folder base extras → IsTrueTo folder base extras originals s → status ≢ 5
+    pub undetermined : (folder : Folder) (base : List ℕ) (extras : List (List ℕ)) (originals : List File) (s : ℕ) → AskForRepair (map string_bytes words) (store.contents old) folder base extras → (original : IsTrueTo folder base extras originals s) → status ≡ 2 → OthersAgree folder base extras originals s original
+    pub unchanged : (folder : Folder) (base : List ℕ) (extras : List (List ℕ)) → AskForRepair (map string_bytes words) (store.contents old) folder base extras → status ≡ 2 → ((store.contents new).files ≡ folder) × OnlyTakesBack (store.contents old) (store.contents new)
+
+  -- a repair after a create and later damage: status 0 leaves each input as it was, the set is readable (never 4), no rebuilt
+  -- file has a wrong digest (never 5), and with too few slices (2) other ones, too, agree with all that is found
+  pub record KeepsInputs : Type 0 where
+    pub restored : (before damaged : Folder) (a : CreateArgs) (base : List ℕ) (extras : List (List ℕ)) → AskForRepair (map string_bytes words) (store.contents old) damaged base extras → FollowsCreate before damaged a base extras → status ≡ 0 → KeepsFiles a.inputs before (store.contents new).files
+    pub right : (before damaged : Folder) (a : CreateArgs) (base : List ℕ) (extras : List (List ℕ)) → AskForRepair (map string_bytes words) (store.contents old) damaged base extras → FollowsCreate before damaged a base extras → (status ≢ 4) × (status ≢ 5)
+    pub undetermined : (before damaged : Folder) (a : CreateArgs) (base : List ℕ) (extras : List (List ℕ)) → AskForRepair (map string_bytes words) (store.contents old) damaged base extras → FollowsCreate before damaged a base extras → status ≡ 2 → HaveAChoice before damaged a base extras
+
+  -- an undo: status 0 leaves names and bytes as before the newest command; the last of as many as there were commands, as
+  -- before all of them
+  pub record LeadsBack : Type 0 where
+    pub undone : (started : Started) → AskFor (map string_bytes words) Undo → IsOpening (store.contents old) (Ok started) → status ≡ 0 → (older : List Folder) × ((history_of started.session).older ≡ (store.contents new).files ∷ older)
+    pub back : (folder : Folder) → AskFor (map string_bytes words) Undo → IsOneUndoFrom folder (store.contents old) → status ≡ 0 → (store.contents new).files ≡ folder
+
+  -- any action: with status 0 it takes effect, and no command is halfway. If different folders on the way have different
+  -- fingerprints, a run that is stopped anywhere takes effect or has none, and so does what a power cut leaves, if all was
+  -- durable before. A verify makes no writing call unless a command is halfway
+  pub record ActsAsAsked : Type 0 where
+    pub done : (action : Action) → AskFor (map string_bytes words) action → status ≡ 0 → TakesEffect action (store.contents old) (store.contents new) × IsSettled (store.contents new)
+    pub effect : (action : Action) → AskFor (map string_bytes words) action → FingerprintsDifferInRun action (store.contents old) → TakesEffect action (store.contents old) (store.contents new) ⊎ HasNoEffect (store.contents old) (store.contents new)
+    pub cut : (action : Action) → ContentsAreDurable store old → AskFor (map string_bytes words) action → FingerprintsDifferInRun action (store.contents old) → (left : Contents) → store.crash_states new left → TakesEffect action (store.contents old) left ⊎ HasNoEffect (store.contents old) left
+    pub unwritten : (base : List ℕ) (extras : List (List ℕ)) → AskFor (map string_bytes words) (Do (Verify base extras)) → ((session : Session) (back : List Change) → IsHalfway (store.contents old) session back → ⊥) → store.writing_calls new ≡ store.writing_calls old

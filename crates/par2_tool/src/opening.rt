@@ -1,13 +1,12 @@
 //! Opening a store as a session. `open_for` reads folder and journal (`read_store`) and opens both (`open_with`), which
 //! drops the history of a changed folder (`without_journal`) or takes back a halfway command in the store
 //! (`take_back`).
-ghost use Rattle.std.specs.Prelude.{◌≡◌, Err, IfErr, IfOk, IsSomeAnd, Ok, Some, option_map, true};
+ghost use Rattle.std.specs.Prelude.{◌≡◌, Err, IfErr, IfOk, Ok, Some, option_map, true};
 ghost use Rattle.par2_journal.specs.Opening.{OpensAsIs, session_before, way_left};
-ghost use Rattle.par2_spec.specs.Opening.{Started as Opening, new_session, started};
+ghost use Rattle.par2_spec.specs.Opening.{new_session, started};
 ghost use Rattle.par2_spec.specs.Sessions.{session_of_kept};
 ghost use Rattle.par2_disk.specs.Stores.{OnlyReads};
-ghost use Rattle.par2_spec.specs.Views.{command_of};
-ghost use Rattle.par2_tool.specs.Opening.{IsOpened, IsUnopened, IsVerify, KeepsStore, OpensStore, StandsFor, Starts, TakesWayBack, WasRead, refused_as, started_of, with_history};
+ghost use Rattle.par2_tool.specs.Opening.{IsUnopened, IsVerifyGiven, KeepsStore, OpensFor, OpensStore, Starts, TakesWayBack, WasRead, refused_as, started_of, unopened_as, with_history};
 
 use crate::writing::write_down;
 use par2_disk::{FolderStore, ReadFault, read_folder};
@@ -123,7 +122,7 @@ fn read_store<S: FolderStore>(
     ensures refused { S.honest store.old
         → IfErr result (IsUnopened (S.contents store.old) (S.contents store.new)) }
     ensures reads { OnlyReads S.Store store.old store.new }
-    ensures keeps { KeepsStore S.Store store.old store.new result }
+    ensures keeps { KeepsStore S.Store unopened_as store.old store.new result }
     ensures possible { S.honest store.old → S.impossible store.new ≡ S.impossible store.old }
 {
     let folder = read_folder(alloc, store)?;
@@ -137,7 +136,7 @@ fn take_back<S: FolderStore>(store: &mut S, halfway: Halfway) -> Result<Session,
     ensures session { IfOk result (λ session. session ≡ session_before halfway) }
     ensures taken { S.honest store.old → TakesWayBack S.Store store.old store.new
         (session_of_kept (session_before halfway)) (way_left halfway) result }
-    ensures keeps { KeepsStore S.Store store.old store.new result }
+    ensures keeps { KeepsStore S.Store unopened_as store.old store.new result }
 {
     let journals = Journals {
         halfway: None,
@@ -158,13 +157,10 @@ fn open_with<S: FolderStore>(
     bytes: &[u8],
     next: Option<Next>,
 ) -> Result<Started, OpenFault>
-    ensures opened { S.honest store.old
-        → WasRead (S.contents store.old) folder.files (Some bytes.now)
-        → Starts S.Store store.old store.new result }
     ensures opens { S.honest store.old
         → WasRead (S.contents store.old) folder.files (Some bytes.now)
-        → OpensStore S.Store store.old store.new result }
-    ensures keeps { KeepsStore S.Store store.old store.new result }
+        → Starts S.Store store.old store.new result × OpensStore S.Store store.old store.new result }
+    ensures keeps { KeepsStore S.Store unopened_as store.old store.new result }
 {
     let opened = match Session::open_before(alloc, folder, bytes, next) {
         Ok(opened) => opened,
@@ -197,8 +193,7 @@ fn needs_no_history(
     folder: &Folder,
     bytes: &[u8],
 ) -> Result<bool>
-    ensures verify { result ≡ Ok true
-        → IsSomeAnd command.entry (λ command. IsVerify (command_of command.now)) }
+    ensures verify { result ≡ Ok true → IsVerifyGiven command.entry }
     ensures opens { result ≡ Ok true → OpensAsIs folder.now.files bytes.now }
 {
     match command {
@@ -214,12 +209,9 @@ pub(crate) fn open_for<S: FolderStore>(
     store: &mut S,
     command: Option<&Command>,
 ) -> Result<Started, OpenFault>
-    ensures opened { IfOk result (λ started. (opened : Opening) × StandsFor
-        (IsSomeAnd command.entry (λ command. IsVerify (command_of command.now)))
-        opened (started_of started)
-        × (S.honest store.old → IsOpened (S.contents store.old) (S.contents store.new) opened)) }
+    ensures opened { IfOk result (OpensFor S.Store store.old store.new (IsVerifyGiven command.entry)) }
     ensures opens { S.honest store.old → OpensStore S.Store store.old store.new result }
-    ensures keeps { KeepsStore S.Store store.old store.new result }
+    ensures keeps { KeepsStore S.Store unopened_as store.old store.new result }
 {
     let (folder, journal) = read_store(alloc, store)?;
     let Some(bytes) = journal else {
@@ -239,7 +231,7 @@ pub(crate) fn open_for<S: FolderStore>(
 pub fn open_store<S: FolderStore>(alloc: Global, store: &mut S) -> Result<Started, OpenFault>
     ensures opened { S.honest store.old → Starts S.Store store.old store.new result }
     ensures opens { S.honest store.old → OpensStore S.Store store.old store.new result }
-    ensures keeps { KeepsStore S.Store store.old store.new result }
+    ensures keeps { KeepsStore S.Store unopened_as store.old store.new result }
 {
     open_for(alloc, store, None)
 }

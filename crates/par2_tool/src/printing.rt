@@ -8,7 +8,7 @@ ghost use Rattle.par2_spec.specs.Output as buffers;
 ghost use Rattle.par2_journal.specs.StepViews.{step_view};
 ghost use Rattle.par2_repair.specs.ReportViews.{state_view, target_report_of, report_view};
 ghost use Rattle.par2_output.specs.PrintedValues.{step_shown, state_shown, target_shown, words_given};
-ghost use Rattle.par2_output.specs.PrinterStates.{IsFlushed, PrinterWrote, failures_of, writer_of};
+ghost use Rattle.par2_output.specs.PrinterStates.{IsFlushed, PrinterWrote as Wrote, failures_of, writer_of};
 ghost use Rattle.par2_tool.specs.Performing.{outcome_of};
 ghost use Rattle.par2_tool.specs.Runs.{IsPrinted};
 
@@ -38,7 +38,7 @@ fn printed(step: &Step) -> PrintedStep<'_>
 
 // Writes a line for each step of a command, in order.
 fn write_steps<W: Write>(out: &mut Printer<W>, steps: &[Step]) -> Written
-    ensures { PrinterWrote W.contents out.old out.new
+    ensures { Wrote W.contents out.old out.new
         (flat_map step_line (map step_view steps.now)) result }
 {
     for step in steps {
@@ -50,7 +50,7 @@ fn write_steps<W: Write>(out: &mut Printer<W>, steps: &[Step]) -> Written
 // Writes the lines of an accepted command other than a verify: a note if opening dropped a history (`dropped`), then a
 // line for each step that was done, and their number.
 fn write_accepted<W: Write>(out: &mut Printer<W>, steps: &[Step], dropped: bool) -> Written
-    ensures { PrinterWrote W.contents out.old out.new
+    ensures { Wrote W.contents out.old out.new
         (note_line dropped ++ done_lines (map step_view steps.now)) result }
 {
     write_note(out, dropped)?;
@@ -84,7 +84,7 @@ fn printed_target(target: &TargetReport) -> PrintedTarget<'_>
 
 // Writes a line for each target of a verify's report, in order.
 fn write_targets<W: Write>(out: &mut Printer<W>, targets: &[TargetReport]) -> Written
-    ensures { PrinterWrote W.contents out.old out.new
+    ensures { Wrote W.contents out.old out.new
         (flat_map target_line (map target_report_of targets.now)) result }
 {
     for target in targets {
@@ -95,8 +95,7 @@ fn write_targets<W: Write>(out: &mut Printer<W>, targets: &[TargetReport]) -> Wr
 
 // Writes the lines of a verify: the set's ID, each target, and the verdict.
 fn write_report<W: Write>(out: &mut Printer<W>, report: &Report) -> Written
-    ensures { PrinterWrote W.contents out.old out.new
-        (report_lines (report_view report.now)) result }
+    ensures { Wrote W.contents out.old out.new (report_lines (report_view report.now)) result }
 {
     write_set(out, &report.set_id)?;
     write_targets(out, &report.targets)?;
@@ -107,8 +106,7 @@ fn write_report<W: Write>(out: &mut Printer<W>, report: &Report) -> Written
 // that opening dropped a history, which a report doesn't show.
 #[tactic(auto, unfolding(par2_spec::specs::Output::output_of))]
 fn write_outcome<W: Write>(out: &mut Printer<W>, outcome: &Outcome, dropped: bool) -> Written
-    ensures { PrinterWrote W.contents out.old out.new
-        (output_of dropped (outcome_of outcome.now)) result }
+    ensures { Wrote W.contents out.old out.new (output_of dropped (outcome_of outcome.now)) result }
 {
     match outcome {
         Outcome::Report(report) => write_report(out, report),

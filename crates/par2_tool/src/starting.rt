@@ -1,9 +1,10 @@
 //! Startup: `main` calls `start` once, with its arguments, its store and its two printers. `words_of` takes the words
-//! after the program's name (`after_name`, then `words_in`), and `run` (headline.rt) does the rest.
+//! after the program's name (`words_in`), and `run` (headline.rt) does the rest.
 ghost use Rattle.std.specs.Prelude.{◌≡◌, [], drop, map, string_bytes, IfErr, IfOk, IsErrOf, IsOk};
 ghost use Rattle.std.specs.IoError.{error_kind};
 ghost use Rattle.std.specs.Vec.Iter.{into_iter_items};
-ghost use Rattle.par2_tool.specs.Runs.{Failed, IsRun, IsShown};
+ghost use Rattle.par2_spec.specs.Answers.{Lists};
+ghost use Rattle.par2_tool.specs.Runs.{Failed, IsRun, IsShown, failure_of_kind};
 
 use crate::headline::run;
 use crate::printing::fail;
@@ -14,34 +15,25 @@ use std::alloc::{AllocError, Global};
 use std::env::Args;
 use std::io::{self, ErrorKind, Write};
 
-// Skips the program's name, the first argument, because the command line is defined without it.
-fn after_name(mut args: Args) -> Args
-    ensures { into_iter_items result ≡ drop 1 (into_iter_items args) }
+// Collects the arguments after the first, the program's name, which the command line is defined without. Err if memory
+// runs out.
+fn words_in(mut args: Args, alloc: Global) -> Result<Vec<String>, AllocError>
+    ensures { Lists (drop 1 (into_iter_items args)) result }
 {
     let _name = args.next();
-    args
-}
-
-// Collects the arguments in order, as `run` takes them. Err if memory runs out.
-fn words_in(args: Args, alloc: Global) -> Result<Vec<String>, AllocError>
-    ensures { IfOk result (λ words. words.items ≡ into_iter_items args) }
-{
     args.collect(alloc)
 }
 
 // The words after the program's name, or the failure that `start` prints. `given` is the runtime's result: an error of
 // kind OutOfMemory is reported as out of memory, and any other, such as a word that isn't UTF-8, as wrong arguments.
+#[tactic(auto, using(crate::proofs::UnreadWords::memory_kind, crate::proofs::UnreadWords::other_kind))]
 fn words_of(given: io::Result<Args>, alloc: Global) -> Result<Vec<String>, Failure>
-    ensures words { IfOk given (λ args. IfOk result (λ words.
-        words.items ≡ drop 1 (into_iter_items args))) }
+    ensures words { IfOk given (λ args. Lists (drop 1 (into_iter_items args)) result) }
     ensures whole { IsOk given → IfErr result (λ failure. failure ≡ Failure.Refused Fault.Memory) }
-    ensures memory { IfErr given (λ error. error_kind error ≡ ErrorKind.OutOfMemory
-        → IsErrOf result (Failure.Refused Fault.Memory)) }
-    ensures arguments { IfErr given (λ error. (error_kind error ≡ ErrorKind.OutOfMemory → ⊥)
-        → IsErrOf result Failure.Arguments) }
+    ensures refused { IfErr given (λ error. IsErrOf result (failure_of_kind (error_kind error))) }
 {
     match given {
-        Ok(args) => match words_in(after_name(args), alloc) {
+        Ok(args) => match words_in(args, alloc) {
             Ok(words) => Ok(words),
             Err(AllocError) => Err(Failure::Refused(Fault::Memory)),
         },
@@ -66,12 +58,8 @@ pub fn start<S: FolderStore, O: Write, E: Write>(
         let words = map string_bytes (drop 1 (into_iter_items args)) in
         IsRun S.Store O.contents E.contents words
         store.old store.new out.old out.new err.old err.new result) }
-    ensures memory { IfErr given (λ error. error_kind error ≡ ErrorKind.OutOfMemory
-        → IsShown (Failed [] (Failure.Refused Fault.Memory)) O.contents out.old out.new
-        E.contents err.old err.new result × (store.new ≡ store.old)) }
-    ensures arguments { IfErr given (λ error. (error_kind error ≡ ErrorKind.OutOfMemory → ⊥)
-        → IsShown (Failed [] Failure.Arguments) O.contents out.old out.new
-        E.contents err.old err.new result × (store.new ≡ store.old)) }
+    ensures refused { IfErr given (λ error. IsShown (Failed [] (failure_of_kind (error_kind error)))
+        O.contents out.old out.new E.contents err.old err.new result × (store.new ≡ store.old)) }
 {
     match words_of(given, alloc) {
         Ok(words) => run(alloc, words.as_slice(), store, out, err),

@@ -1,11 +1,10 @@
 //! Writing changes to a store between two journals: `write_down` puts the halfway journal (`begin`), makes the changes
-//! (`write_changes`), and puts the final journal. `perform` calls it, and so does taking back a halfway
-//! command.
-ghost use Rattle.std.specs.Prelude.{◌≡◌, ◌+◌, ◌⊎◌, length, map, OnOk};
+//! (`write_change`), and puts the final journal. `perform` calls it, and so does taking back a halfway command.
+ghost use Rattle.std.specs.Prelude.{◌≡◌, ◌+◌, OnOk};
 ghost use Rattle.par2_disk.specs.Stores.{CountsFailures, Makes};
 ghost use Rattle.par2_files.specs.ChangeViews.{change_of};
-ghost use Rattle.par2_tool.specs.Opening.{AreSomeWritten, ContentsAreDurable, StaysKept, with_all_changes};
-ghost use Rattle.par2_tool.specs.Performing.{AllPossible, CountsWrites, IsStoppedAt, WritesInOrder, after_write_down, calls_before, with_halfway_journal};
+ghost use Rattle.par2_tool.specs.Opening.{ContentsAreDurable, StaysKept};
+ghost use Rattle.par2_tool.specs.Performing.{Begins, WritesDown};
 
 use par2_disk::{FolderStore, StoreFault};
 use par2_files::Change;
@@ -27,37 +26,11 @@ fn write_change<S: FolderStore>(store: &mut S, change: &Change) -> Result<(), St
     }
 }
 
-// Makes changes in order, each with one writing call. If the store fails, a prefix of them is made. `AllPossible`: if
-// they apply to the store's files, no call is impossible.
-fn write_changes<S: FolderStore>(store: &mut S, changes: &[Change]) -> Result<(), StoreFault>
-    ensures written { let old = S.contents store.old in let all = map change_of changes.now in
-        WritesInOrder S.Store store.old store.new (with_all_changes old all)
-        (AreSomeWritten old all) result }
-    ensures kept { StaysKept S.Store store.old store.new result }
-    ensures failures { CountsFailures S.failures store.old store.new result }
-    ensures possible { AllPossible S.Store store.old store.new changes.now }
-    ensures calls { CountsWrites S.Store store.old store.new (length changes.now) result }
-{
-    for change in changes {
-        match write_change(store, change) {
-            Ok(()) => {}
-            Err(fault) => return Err(fault),
-        }
-    }
-    Ok(())
-}
-
 // Puts the halfway journal, if there is one, so that what a stop leaves can be taken back. There is none if nothing is
 // changed, or if the changes take a command back: its halfway journal is in the store already.
 fn begin<S: FolderStore>(store: &mut S, halfway: &Option<Vec<u8>>) -> Result<(), StoreFault>
-    ensures written { let old = S.contents store.old in
-        let after = with_halfway_journal old halfway.now in
-        WritesInOrder S.Store store.old store.new after
-        (λ left. (left ≡ old) ⊎ (left ≡ after)) result }
+    ensures written { Begins S.Store store.old store.new halfway.now result }
     ensures kept { StaysKept S.Store store.old store.new result }
-    ensures failures { CountsFailures S.failures store.old store.new result }
-    ensures possible { S.impossible store.new ≡ S.impossible store.old }
-    ensures calls { CountsWrites S.Store store.old store.new (calls_before halfway.now) result }
 {
     match halfway {
         Some(bytes) => store.put_journal(bytes),
@@ -72,16 +45,15 @@ pub fn write_down<S: FolderStore>(
     journals: &Journals,
     changes: &[Change],
 ) -> Result<(), StoreFault>
-    ensures written { let old = S.contents store.old in let all = map change_of changes.now in
-        WritesInOrder S.Store store.old store.new (after_write_down old journals.now all)
-        (IsStoppedAt old journals.now all) result }
+    ensures written { WritesDown S.Store store.old store.new journals.now changes.now result }
     ensures kept { S.honest store.old → OnOk result (ContentsAreDurable S.Store store.new) }
-    ensures failures { CountsFailures S.failures store.old store.new result }
-    ensures possible { AllPossible S.Store store.old store.new changes.now }
-    ensures calls { let number = calls_before journals.now.halfway + (length changes.now + 1)
-        in CountsWrites S.Store store.old store.new number result }
 {
     begin(store, &journals.halfway)?;
-    write_changes(store, changes)?;
+    for change in changes {
+        match write_change(store, change) {
+            Ok(()) => {}
+            Err(fault) => return Err(fault),
+        }
+    }
     store.put_journal(&journals.after)
 }

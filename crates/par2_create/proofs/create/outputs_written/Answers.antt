@@ -9,12 +9,12 @@ use Rattle.par2_create.proofs.GoodWords.{IsHead, AreInputs, head_passed, inputs_
 use Rattle.par2_create.proofs.OutputChanges.{written, create_written}
 use Rattle.par2_create.proofs.create.outputs_written.Goals as goal
 
-few_records : (folder : Folder) (a : CreateArgs) (set : RecoverySet) (records : List FileRecord) → RecordsInputs folder a set → head_fault a ≡ None → inputs_fault folder a.slice a.inputs ≡ None → records ≡ set.files.items
+few_records : (folder : Folder) (a : CreateArgs) (set : RecoverySet) (records : List FileRecord) → RecordsInputs folder a set → head_fault a ≡ None → inputs_fault folder a ≡ None → records ≡ set.files.items
     → length records ≤ 32768
 few_records folder a set records are head inputs same =
     let ordered = in_id_order (files_of folder a.inputs) in
     let size : length records ≡ length ordered = sym (length-map records file_record_of) ∙ ap length (ap (map file_record_of) same ∙ are.files) ∙ length-map ordered (record_of a.slice) in
-    subst (λ n. n ≤ 32768) (sym size) (few_in_order folder a.slice a.inputs (inputs_passed _ _ _ inputs) (head_passed _ head).positive)
+    subst (λ n. n ≤ 32768) (sym size) (few_in_order folder a.slice a.inputs (inputs_passed _ _ inputs) (head_passed _ head).positive)
 
 pub index_of-requires : goal.index_of-requires
 index_of-requires c = few_records c.args.folder.now.files (create_args_of c.args.args.now) c.args.set.now _ c.requires.set c.requires.head c.requires.inputs c.deref.ensures.value
@@ -27,7 +27,7 @@ invariant_of-parts c =
     let slice = c.requires.set.slice in
     let order = files_of_records s folder inputs c.args.set.now.files.items c.requires.set.files in
     let head : IsHead (create_args_of c.args.args.now) = head_passed _ c.requires.head in
-    let are : AreInputs folder s inputs = inputs_passed _ _ _ c.requires.inputs in
+    let are : AreInputs folder s inputs = inputs_passed _ (create_args_of c.args.args.now) c.requires.inputs in
     record {
       sixteen = ap length c.in_ok-set_id.ensures.id ∙ length-md5 _;
       positive = subst (λ n. 1 ≤ n) (sym slice) head.positive;

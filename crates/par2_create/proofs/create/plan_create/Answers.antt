@@ -63,7 +63,7 @@ returns-in_err-set-clause-refused c =
     let folder = c.args.folder.now.files in
     let a = create_args_of c.args.args.now in
     let fault : Fault = c.in_err-set.field-0.0 in
-    passed.refused_by (λ y. inputs_fault folder a.slice a.inputs ≡ Some y) (λ y. refusal folder (Create a) ≡ Some y) c.from_residual-in_err-set.result fault
+    passed.refused_by (λ y. inputs_fault folder a ≡ Some y) (λ y. refusal folder (Create a) ≡ Some y) c.from_residual-in_err-set.result fault
     (err_from_is_err_and c.from_residual-in_err-set.result c.from_residual-in_err-set.ensures.1) c.in_err-set.ensures.refused
     (λ cause. refused_by folder a None (Some fault) _ _ c.in_ok-base.ensures.accepted cause refl refl)
 
@@ -81,18 +81,18 @@ returns-in_err-volumes-clause-refused c =
     let head = c.in_ok-base.ensures.accepted in
     passed.refused_by (λ y. long_name (volume_names (volumes_of c.in_ok-base.base a.first a.count)) ≡ Some y) (λ y. refusal folder (Create a) ≡ Some y) c.from_residual-in_err-volumes.result fault
     (err_from_is_err_and c.from_residual-in_err-volumes.result c.from_residual-in_err-volumes.ensures.1) c.in_err-volumes.ensures.refused
-    (λ cause. refused_by folder a None None (Some fault) _ head c.in_ok-set.ensures.accepted
+    (λ cause. refused_by folder a None None (Some fault) _ head c.in_ok-set.ensures.passed
     (long_without_base a head ∙ subst (λ base. long_name (volume_names (volumes_of base a.first a.count)) ≡ Some fault) c.in_ok-base.ensures.name cause) refl)
 
 pub returns-in-Some-existing-clause-refused : goal.returns-in-Some-existing-clause-refused
 returns-in-Some-existing-clause-refused c =
     let is = named (goal.at.returns-in-Some-existing-clause-refused c).After-existing in
-    inr (refused_by c.args.folder.now.files (create_args_of c.args.args.now) None None None (Some c.in-Some-existing.fault) c.in_ok-base.ensures.accepted c.in_ok-set.ensures.accepted is.0 (is.1 ∙ c.in-Some-existing.is))
+    inr (refused_by c.args.folder.now.files (create_args_of c.args.args.now) None None None (Some c.in-Some-existing.fault) c.in_ok-base.ensures.accepted c.in_ok-set.ensures.passed is.0 (is.1 ∙ c.in-Some-existing.is))
 
 pub returns-clause-accepted : goal.returns-clause-accepted
 returns-clause-accepted c =
     let is = named (goal.at.returns-clause-accepted c).After-existing in
-    refused_by c.args.folder.now.files (create_args_of c.args.args.now) None None None None c.in_ok-base.ensures.accepted c.in_ok-set.ensures.accepted is.0 (is.1 ∙ c.in_default-existing.is)
+    refused_by c.args.folder.now.files (create_args_of c.args.args.now) None None None None c.in_ok-base.ensures.accepted c.in_ok-set.ensures.passed is.0 (is.1 ∙ c.in_default-existing.is)
 
 pub returns-clause-changes : goal.returns-clause-changes
 unfolding changes_of
@@ -125,7 +125,7 @@ outputs_written-requires c =
     let a = create_args_of c.args.args.now in
     record {
       head = c.in_ok-base.ensures.accepted;
-      inputs = c.in_ok-set.ensures.accepted;
+      inputs = c.in_ok-set.ensures.passed;
       base = c.in_ok-base.ensures.name;
       set = c.in_ok-set.ensures.set;
       volumes = c.deref-3.ensures.value ∙ c.in_ok-volumes.ensures.volumes ∙ ap (λ base. volumes_of base a.first a.count) c.in_ok-base.ensures.name;

@@ -1,4 +1,4 @@
-use Rattle.par2_create.proofs.Common.{◌∙◌, ap, Some, inr, refl, subst, sym, map, input_file, IsDistinct, bytes_eq, false≢true}
+use Rattle.par2_create.proofs.Common.{inr, refl, subst, sym, map, input_file, IsDistinct, bytes_eq, false≢true}
 use Rattle.par2_create.proofs.Ids.{ids_accepted, ids_refused, ids_said}
 use Rattle.par2_create.proofs.inputs.set_of.Goals as goal
 
@@ -10,4 +10,4 @@ returns-in-Ok-clause-accepted c =
 pub returns-in-Err-clause-refused : goal.returns-in-Err-clause-refused
 returns-in-Err-clause-refused c =
     let files = map input_file c.args.inputs.now in
-    inr (ids_refused files c.args.size (λ once. false≢true (c.in-Err.ensures.distinct.1 (subst (IsDistinct bytes_eq) (sym (ids_said c.args.size files c.in_ok-records.records.items c.in_ok-records.ensures)) once))) ∙ ap Some (sym c.fault_of.ensures))
+    inr (ids_refused files c.args.size (λ once. false≢true (c.in-Err.ensures.distinct.1 (subst (IsDistinct bytes_eq) (sym (ids_said c.args.size files c.in_ok-records.records.items c.in_ok-records.ensures)) once))))

@@ -1,5 +1,6 @@
-use Rattle.par2_tool.proofs.Common.{◌≡◌, ◌≢◌, ◌⊎◌, ◌<◌, inl, ℕ, List, Some, sym, ap, subst, ◌∙◌, map, arith, Action, Repair, Undo, AskFor, TakesEffect, AskForRepair, Folder, AllByRecursion, may_refuse, string_bytes, false≢true}
-use Rattle.std.specs.FinMap as map_of
+use Rattle.par2_tool.proofs.Common.{◌≡◌, ◌≢◌, ◌⊎◌, ◌<◌, inl, ℕ, List, Some, sym, ap, subst, ◌∙◌, map, arith, Action, Repair, Undo, AskFor, TakesEffect, AskForRepair, Folder, CreateArgs, Fault, status_of_fault, may_refuse, string_bytes, false≢true, true}
+use Rattle.par2_laws.specs.Answers.{HasFiles, KeepsFiles}
+use Rattle.par2_laws.specs.Creates.{FollowsCreate}
 use Rattle.par2_tool.proofs.RunEffects.{IsRefused, Leaves, accepted_with_zero, effect_of, leaves_of, repair_refused, repaired, stopped_effect}
 use Rattle.par2_tool.proofs.RunCalls.{verify_makes_none}
 use Rattle.par2_tool.proofs.Statuses.{own_status, shown_status, reported_of}
@@ -32,53 +33,51 @@ refused_repair g c folder base extras honest asks n is zero three low =
     (repair_refused c.stores_open_in_one_way.ensures words old new folder base extras asks c.run.ensures.reported.run_result c.run.result (status_of_run g c) (left_so g c _ honest asks.requested)
     (λ e. zero (sym is ∙ e)) (λ e. three (sym is ∙ e)) (omega (arith, is, low)))
 
-pub returns-clause-restored : goal.returns-clause-restored
-returns-clause-restored g c folder base extras originals s honest asks original zero =
-    let is = repaired c.stores_open_in_one_way.ensures (map string_bytes c.args.words.now) (g.S.Store.contents c.args.store.now) (g.S.Store.contents c.run.new.store)
-    folder base extras asks c.run.ensures.reported.run_result c.run.result (status_of_run g c) (left_so g c _ honest asks.requested) zero in
-    subst (λ (left : Folder). AllByRecursion (λ file. map_of.get left file.0 ≡ Some file.1) originals) (sym is.left)
-    (c.accepted_repair_leaves_the_files.ensures folder base extras asks.purge originals s original is.accepted)
+pub returns-clause-files : goal.returns-clause-files
+returns-clause-files g c honest = record {
+  restored = λ folder base extras originals s asks original zero.
+      let is = repaired c.stores_open_in_one_way.ensures (map string_bytes c.args.words.now) (g.S.Store.contents c.args.store.now) (g.S.Store.contents c.run.new.store)
+      folder base extras asks c.run.ensures.reported.run_result c.run.result (status_of_run g c) (left_so g c _ honest asks.requested) zero in
+      subst (HasFiles originals) (sym is.left) (c.accepted_repair_leaves_the_files.ensures folder base extras asks.purge originals s original is.accepted);
+  right = λ folder base extras originals s asks original five.
+      let is = refused_repair g c folder base extras honest asks 5 five (λ e. omega (arith, e)) (λ e. omega (arith, e)) (omega arith) in
+      c.repair_never_fails.ensures folder base extras asks.purge originals s original (is.refused ∙ ap Some ((reported_of is.fault).wrong is.reported));
+  undetermined = λ folder base extras originals s asks original two.
+      let is = refused_repair g c folder base extras honest asks 2 two (λ e. omega (arith, e)) (λ e. omega (arith, e)) (omega arith) in
+      let few = (reported_of is.fault).few_left is.reported in
+      c.refused_repair_leaves_a_choice.ensures folder base extras asks.purge originals s few.0 few.1 original (is.refused ∙ ap Some few.2);
+  unchanged = λ folder base extras asks two.
+      let is = refused_repair g c folder base extras honest asks 2 two (λ e. omega (arith, e)) (λ e. omega (arith, e)) (omega arith) in
+      (is.files, is.left);
+}
 
-pub returns-clause-right : goal.returns-clause-right
-returns-clause-right g c folder base extras originals s honest asks original five =
-    let is = refused_repair g c folder base extras honest asks 5 five (λ e. omega (arith, e)) (λ e. omega (arith, e)) (omega arith) in
-    c.repair_never_fails.ensures folder base extras asks.purge originals s original (is.refused ∙ ap Some ((reported_of is.fault).wrong is.reported))
+-- a repair after a create is refused for few causes
+few_causes : (g : _) (c : After-run g) (before damaged : Folder) (a : CreateArgs) (base : List ℕ) (extras : List (List ℕ)) → g.S.Store.honest c.args.store.now
+    → (asks : AskForRepair (map string_bytes c.args.words.now) (g.S.Store.contents c.args.store.now) damaged base extras) → FollowsCreate before damaged a base extras
+    → (n : ℕ) → c.run.result ≡ n → n ≢ 0 → n ≢ 3 → n < 6 → (fault : Fault) × (status_of_fault fault ≡ n) × (may_refuse fault ≡ true)
+few_causes g c before damaged a base extras honest asks follows n is zero three low =
+    let by = refused_repair g c damaged base extras honest asks n is zero three low in
+    (by.fault, by.reported, c.repair_of_created_files_is_refused_for_few_causes.ensures before damaged a base extras asks.purge by.fault follows by.refused)
 
-pub returns-clause-undetermined : goal.returns-clause-undetermined
-returns-clause-undetermined g c folder base extras originals s honest asks original two =
-    let is = refused_repair g c folder base extras honest asks 2 two (λ e. omega (arith, e)) (λ e. omega (arith, e)) (omega arith) in
-    let few = (reported_of is.fault).few_left is.reported in
-    c.refused_repair_leaves_a_choice.ensures folder base extras asks.purge originals s few.0 few.1 original (is.refused ∙ ap Some few.2)
-
-pub returns-clause-unchanged : goal.returns-clause-unchanged
-returns-clause-unchanged g c folder base extras honest asks two =
-    let is = refused_repair g c folder base extras honest asks 2 two (λ e. omega (arith, e)) (λ e. omega (arith, e)) (omega arith) in
-    (is.files, is.left)
-
-pub returns-clause-inputs_restored : goal.returns-clause-inputs_restored
-returns-clause-inputs_restored g c before damaged a base extras honest asks follows zero =
-    let is = repaired c.stores_open_in_one_way.ensures (map string_bytes c.args.words.now) (g.S.Store.contents c.args.store.now) (g.S.Store.contents c.run.new.store)
-    damaged base extras asks c.run.ensures.reported.run_result c.run.result (status_of_run g c) (left_so g c _ honest asks.requested) zero in
-    subst (λ (left : Folder). AllByRecursion (λ name. map_of.get left name ≡ map_of.get before name) a.inputs) (sym is.left)
-    (c.repair_gives_the_created_files_back.ensures before damaged a base extras asks.purge follows is.accepted)
-
-pub returns-clause-inputs_right : goal.returns-clause-inputs_right
-returns-clause-inputs_right g c before damaged a base extras honest asks follows = (
-  λ four.
-      let is = refused_repair g c damaged base extras honest asks 4 four (λ e. omega (arith, e)) (λ e. omega (arith, e)) (omega arith) in
-      let few = c.repair_of_created_files_is_refused_for_few_causes.ensures before damaged a base extras asks.purge is.fault follows is.refused in
-      false≢true (sym ((reported_of is.fault).unread is.reported) ∙ few),
-  λ five.
-      let is = refused_repair g c damaged base extras honest asks 5 five (λ e. omega (arith, e)) (λ e. omega (arith, e)) (omega arith) in
-      let few = c.repair_of_created_files_is_refused_for_few_causes.ensures before damaged a base extras asks.purge is.fault follows is.refused in
-      false≢true (ap may_refuse (sym ((reported_of is.fault).wrong is.reported)) ∙ few),
-)
-
-pub returns-clause-inputs_undetermined : goal.returns-clause-inputs_undetermined
-returns-clause-inputs_undetermined g c before damaged a base extras honest asks follows two =
-    let is = refused_repair g c damaged base extras honest asks 2 two (λ e. omega (arith, e)) (λ e. omega (arith, e)) (omega arith) in
-    let few = (reported_of is.fault).few_left is.reported in
-    c.created_files_not_repairable_have_a_choice.ensures before damaged a base extras asks.purge few.0 few.1 follows (is.refused ∙ ap Some few.2)
+pub returns-clause-inputs : goal.returns-clause-inputs
+returns-clause-inputs g c honest = record {
+  restored = λ before damaged a base extras asks follows zero.
+      let is = repaired c.stores_open_in_one_way.ensures (map string_bytes c.args.words.now) (g.S.Store.contents c.args.store.now) (g.S.Store.contents c.run.new.store)
+      damaged base extras asks c.run.ensures.reported.run_result c.run.result (status_of_run g c) (left_so g c _ honest asks.requested) zero in
+      subst (KeepsFiles a.inputs before) (sym is.left) (c.repair_gives_the_created_files_back.ensures before damaged a base extras asks.purge follows is.accepted);
+  right = λ before damaged a base extras asks follows. (
+    λ four.
+        let few = few_causes g c before damaged a base extras honest asks follows 4 four (λ e. omega (arith, e)) (λ e. omega (arith, e)) (omega arith) in
+        false≢true (sym ((reported_of few.0).unread few.1) ∙ few.2),
+    λ five.
+        let few = few_causes g c before damaged a base extras honest asks follows 5 five (λ e. omega (arith, e)) (λ e. omega (arith, e)) (omega arith) in
+        false≢true (ap may_refuse (sym ((reported_of few.0).wrong few.1)) ∙ few.2),
+  );
+  undetermined = λ before damaged a base extras asks follows two.
+      let is = refused_repair g c damaged base extras honest asks 2 two (λ e. omega (arith, e)) (λ e. omega (arith, e)) (omega arith) in
+      let few = (reported_of is.fault).few_left is.reported in
+      c.created_files_not_repairable_have_a_choice.ensures before damaged a base extras asks.purge few.0 few.1 follows (is.refused ∙ ap Some few.2);
+}
 
 -- ---- any action
 
@@ -88,31 +87,27 @@ effect_with_zero : (g : _) (c : After-run g) (action : Action) → g.S.Store.hon
 effect_with_zero g c action honest requested zero =
     inl (accepted_with_zero (map string_bytes c.args.words.now) action _ _ c.run.ensures.reported.run_result c.run.result (status_of_run g c) (left_so g c action honest requested) zero)
 
-pub returns-clause-undone : goal.returns-clause-undone
-returns-clause-undone g c started honest requested opens zero =
-    let effect = effect_with_zero g c Undo honest requested zero in
+pub returns-clause-undo : goal.returns-clause-undo
+returns-clause-undo g c honest =
     let laws = c.runs_keep_one_history.ensures in
-    leaves_older laws.kept c.stores_open_in_one_way.ensures _ _ started opens effect (laws.settled _ _ Undo effect)
+    record {
+      undone = λ started requested opens zero.
+          let effect = effect_with_zero g c Undo honest requested zero in
+          leaves_older laws.kept c.stores_open_in_one_way.ensures _ _ started opens effect (laws.settled _ _ Undo effect);
+      back = λ folder requested from zero.
+          let effect = effect_with_zero g c Undo honest requested zero in
+          leaves_first c.stores_open_in_one_way.ensures c.undone_runs_lead_back.ensures.opens folder _ _ from effect (laws.settled _ _ Undo effect);
+    }
 
-pub returns-clause-back : goal.returns-clause-back
-returns-clause-back g c folder honest requested from zero =
-    let effect = effect_with_zero g c Undo honest requested zero in
-    let laws = c.runs_keep_one_history.ensures in
-    leaves_first c.stores_open_in_one_way.ensures c.undone_runs_lead_back.ensures.opens folder _ _ from effect (laws.settled _ _ Undo effect)
-
-pub returns-clause-done : goal.returns-clause-done
-returns-clause-done g c action honest requested zero =
-    let effect = effect_with_zero g c action honest requested zero in
-    (effect, c.runs_keep_one_history.ensures.settled _ _ action effect)
-
-pub returns-clause-effect : goal.returns-clause-effect
-returns-clause-effect g c action honest requested apart =
-    effect_of (map string_bytes c.args.words.now) action (g.S.Store.contents c.args.store.now) (g.S.Store.contents c.run.new.store) c.run.ensures.reported.run_result (left_so g c action honest requested) apart
-
-pub returns-clause-cut : goal.returns-clause-cut
-returns-clause-cut g c action honest durable requested apart left may =
-    stopped_effect (g.S.Store.contents c.args.store.now) left action apart (c.run.ensures.cut action honest durable requested left may)
-
-pub returns-clause-unwritten : goal.returns-clause-unwritten
-returns-clause-unwritten g c base extras honest requested none =
-    verify_makes_none g.S.Store (map string_bytes c.args.words.now) c.args.store.now c.run.new.store base extras none requested c.run.ensures.reported.run_result honest c.run.ensures.reported.reported
+pub returns-clause-action : goal.returns-clause-action
+returns-clause-action g c honest =
+    let old = g.S.Store.contents c.args.store.now in
+    record {
+      done = λ action requested zero.
+          let effect = effect_with_zero g c action honest requested zero in
+          (effect, c.runs_keep_one_history.ensures.settled _ _ action effect);
+      effect = λ action requested apart. effect_of (map string_bytes c.args.words.now) action old (g.S.Store.contents c.run.new.store) c.run.ensures.reported.run_result (left_so g c action honest requested) apart;
+      cut = λ action durable requested apart left may. stopped_effect old left action apart (c.run.ensures.cut action honest durable requested left may);
+      unwritten = λ base extras requested none.
+          verify_makes_none g.S.Store (map string_bytes c.args.words.now) c.args.store.now c.run.new.store base extras none requested c.run.ensures.reported.run_result honest c.run.ensures.reported.reported;
+    }

@@ -44,14 +44,14 @@ returns-clause-opened g c =
     let result = c.open_with.result in
     stands _ (g.S.Store.honest c.args.store.now) result (g.S.Store.contents c.args.store.now) new
     (λ honest. subst (λ k. WasRead k c.in_ok-folder.folder.files (Some c.deref-2.result.now) → IfOk result (λ s. IsOpened k new (started_of s))) (c.read_store.ensures.reads.same honest)
-    (c.open_with.ensures.opened (c.read_store.ensures.reads.honest honest)) (read_so g (goal.at.returns-clause-opened g c).After-open_with honest))
+    (λ read. (c.open_with.ensures.opens (c.read_store.ensures.reads.honest honest) read).0) (read_so g (goal.at.returns-clause-opened g c).After-open_with honest))
 
 pub returns-clause-opens : goal.returns-clause-opens
 returns-clause-opens g c honest =
     let reads = c.read_store.ensures.reads in
     let read = subst (λ k. WasRead k c.in_ok-folder.folder.files (Some c.deref-2.result.now)) (sym (reads.same honest)) (read_so g (goal.at.returns-clause-opens g c).After-open_with honest) in
     opens_after_reading g.S.Store c.args.store.now c.read_store.new.store c.open_with.new.store c.open_with.result reads honest (c.read_store.ensures.possible honest)
-    (c.open_with.ensures.opens (reads.honest honest) read)
+    (c.open_with.ensures.opens (reads.honest honest) read).1
 
 pub returns-in_err-folder-clause-opens : goal.returns-in_err-folder-clause-opens
 returns-in_err-folder-clause-opens g c honest =

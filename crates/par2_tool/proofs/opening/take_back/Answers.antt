@@ -35,19 +35,19 @@ returns-in-Ok-clause-taken g c honest =
       stopped = tt;
       remains = λ durable left may. still_so g (goal.at.returns-in-Ok-clause-taken g c).After-write_down left (c.write_down.ensures.written.remains honest durable left may);
       refused = tt;
-      possible = λ all. c.write_down.ensures.possible honest (subst (λ changes. IsTrue (are_applicable (g.S.Store.contents c.args.store.now).files changes)) (sym c.changes.ensures) all);
-      calls = record { opened = omega (arith, c.in-Ok.ensures.calls.calls, number); refused = tt };
+      possible = λ all. c.write_down.ensures.written.possible honest (subst (λ changes. IsTrue (are_applicable (g.S.Store.contents c.args.store.now).files changes)) (sym c.changes.ensures) all);
+      calls = record { done = omega (arith, c.in-Ok.ensures.written.calls.done, number); refused = tt };
     }
 
 pub returns-in-Err-clause-taken : goal.returns-in-Err-clause-taken
 returns-in-Err-clause-taken g c honest =
     let number = way_length g (goal.at.returns-in-Err-clause-taken g c).After-write_down in
-    let most = c.write_down.ensures.calls.at_most in
+    let most = c.in-Err.ensures.written.calls.refused in
     record {
       done = tt;
       stopped = still_so g (goal.at.returns-in-Err-clause-taken g c).After-write_down _ (c.in-Err.ensures.written.stopped honest);
       remains = λ durable left may. still_so g (goal.at.returns-in-Err-clause-taken g c).After-write_down left (c.write_down.ensures.written.remains honest durable left may);
       refused = tt;
-      possible = λ all. c.write_down.ensures.possible honest (subst (λ changes. IsTrue (are_applicable (g.S.Store.contents c.args.store.now).files changes)) (sym c.changes.ensures) all);
-      calls = record { opened = tt; refused = record { later = most.later; within = omega (arith, most.within, number) } };
+      possible = λ all. c.write_down.ensures.written.possible honest (subst (λ changes. IsTrue (are_applicable (g.S.Store.contents c.args.store.now).files changes)) (sym c.changes.ensures) all);
+      calls = record { done = tt; refused = record { later = most.later; within = omega (arith, most.within, number) } };
     }

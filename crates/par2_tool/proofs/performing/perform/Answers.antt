@@ -1,24 +1,51 @@
-use Rattle.par2_tool.proofs.Common.{◌≡◌, ◌+◌, List, length, refl, sym, ap, subst, ◌∙◌, map, take, ℕ, IsVerify, HoldsJournaled, AreAtMost, after_write_down, IsStoppedAt, IsWritten, calls_requested, FingerprintsDifferAlong, OpensAsBeforeOrAfter, calls_before, length-map, Verify, LeadsToAfterRequested, session_of_kept, session_after, changes_requested, Contents, action_of, command_of, report_view, MayRefuse, Plan, Two, AreSpelled, change_of, changes_by_kind, after_commit, journals_of, ok_no_err, early_refusal_of, IfOk, effects}
+use Rattle.par2_tool.proofs.Common.{◌≡◌, ◌+◌, inl, List, length, refl, sym, ap, subst, ◌∙◌, map, take, ℕ, arith, Result, OnOk, IfOk-from_err, on_ok_weaker, IsVerify, HoldsJournaled, AreAtMost, KeptSession, after_write_down, IsStoppedAt, IsWritten, calls_requested, FingerprintsDifferAlong, OpensAsBeforeOrAfter, calls_before, length-map, Verify, session_of_kept, changes_requested, Contents, action_of, command_of, report_view, MayRefuse, Plan, Two, AreSpelled, change_of, changes_by_kind, after_commit, journals_of, ok_no_err, early_refusal_of, IfOk, effects, PerformFault, ActsOn, IsOn, IsPerformed, RefusesAtOnce}
 use Rattle.par2_spec.specs.Changes as defined
+use Rattle.par2_spec.specs.declared.commands.Action as requested
 use Rattle.par2_spec.specs.declared.commands.Command.{Command}
+use Rattle.par2_spec.specs.declared.commands.Command.TheVariants.{Act}
 use Rattle.par2_spec.proofs.AcceptedCommands.{command_leads}
-use Rattle.par2_tool.proofs.Calls.{requested_calls, ready_calls}
+use Rattle.par2_disk.specs.declared.view.Store.{Ghosts as StoreOf}
+use Rattle.par2_tool.specs.declared.performing.Outcome.{Outcome}
+use Rattle.par2_tool.specs.declared.performing.Outcome.TheVariants as outcome
+use Rattle.par2_tool.proofs.Calls.{for_verify, requested_calls, ready_calls, session_counts}
 use Rattle.par2_tool.proofs.Openings.{any_err}
 use Rattle.par2_tool.proofs.VerifyRuns.{as_it_was, not_verify, verify_leaves, verify_refused, written_by}
 use Rattle.par2_tool.proofs.Stops.{IsMadeReady, none_made, made_ready, ready_applies, written_down, stopped_opens, requested_in_order}
-use Rattle.par2_tool.proofs.performing.perform.Goals.{After-write_down}
+use Rattle.par2_tool.proofs.performing.perform.Goals.{After-write_down, In-Ok-prepare}
 use Rattle.par2_tool.proofs.performing.perform.Goals as goal
 
-pub returns-in-Ok-clause-session : goal.returns-in-Ok-clause-session
-returns-in-Ok-clause-session g c =
-    let s = session_of_kept c.args.session.now in
-    ap (λ (x : Command). session_after s (command_of x)) c.in-Verify.is
-    ∙ verify_leaves s _ _ (report_view c.in-Ok.report) (rw c.as_str.ensures.value at (rw c.as_slice.ensures.value at c.in-Ok.ensures.report))
+-- nothing was done to the store
+stays_on : {S T : Type 0} (store : StoreOf S) (command : Command) (it : S) (before after : KeptSession) (result : Result T PerformFault)
+    → OnOk result (IsVerify (command_of command)) → (IsVerify (command_of command) → after ≡ before) → ActsOn store command it it before after result
+stays_on store command it before after result verify same = record {
+  verify = λ is. (refl, same is);
+  unchanged = λ _ _. refl;
+  written = λ _. on_ok_weaker result (λ is. for_verify (λ action. IsWritten action (session_of_kept after) (store.contents it) (store.contents it)) (λ _ _. refl) (command_of command) is) verify;
+  stopped = λ _ _. any_err result _ (inl refl);
+  cut = λ _ durable _ left may. inl (durable left may);
+  in_order = λ _. any_err result _ (none_made (store.contents it).files (changes_requested (session_of_kept before) (command_of command)));
+  possible = λ _. refl;
+}
 
-pub returns-in-Ok-clause-leads : goal.returns-in-Ok-clause-leads
-returns-in-Ok-clause-leads g c =
-    let folder = (session_of_kept c.args.session.now).folder in
-    subst (λ (x : Command). LeadsToAfterRequested folder (command_of x)) (sym c.in-Verify.is) (λ _. command_leads folder (Verify _ _) tt)
+-- no action is a verify
+no_verify : {A : Type 0} (command : Command) (action : requested.Action) → command ≡ Act action → IsVerify (command_of command) → A
+no_verify command action is verify = absurd (not_verify action (subst (λ (x : Command). IsVerify (command_of x)) is verify))
+
+-- ---- a verify
+
+pub returns-in-Ok-clause-done : goal.returns-in-Ok-clause-done
+returns-in-Ok-clause-done g c =
+    let s = session_of_kept c.args.session.now in
+    let report = rw c.as_str.ensures.value at (rw c.as_slice.ensures.value at c.in-Ok.ensures.report) in
+    subst (λ (x : Command). IsPerformed (command_of x) c.args.session.now c.args.session.now (outcome.Report c.in-Ok.report)) (sym c.in-Verify.is)
+    (record {
+      after = verify_leaves s _ _ (report_view c.in-Ok.report) report;
+      leads = λ _. command_leads s.folder (Verify _ _) tt;
+      answer = (report_view c.in-Ok.report, report, refl);
+    })
+
+pub returns-in-Ok-clause-stored : goal.returns-in-Ok-clause-stored
+returns-in-Ok-clause-stored g c = stays_on g.S.Store c.args.command.now c.args.store.now _ _ _ (subst (λ (x : Command). IsVerify (command_of x)) (sym c.in-Verify.is) tt) (λ _. refl)
 
 pub returns-in-Err-clause-refused : goal.returns-in-Err-clause-refused
 returns-in-Err-clause-refused g c =
@@ -26,56 +53,41 @@ returns-in-Err-clause-refused g c =
     let refused = rw c.as_str.ensures.value at (rw c.as_slice.ensures.value at c.in-Err.ensures.refused) in (
       subst (λ (x : Command). MayRefuse (command_of x) s (Plan c.in-Err.fault)) (sym c.in-Verify.is) (verify_refused s _ _ c.in-Err.fault refused),
       as_it_was s,
-      refl,
     )
 
-pub returns-in-Err-clause-in_order : goal.returns-in-Err-clause-in_order
-returns-in-Err-clause-in_order g c honest = none_made (g.S.Store.contents c.args.store.now).files (changes_requested (session_of_kept c.args.session.now) (command_of c.args.command.now))
-
-pub returns-in-Err-prepare-clause-in_order : goal.returns-in-Err-prepare-clause-in_order
-returns-in-Err-prepare-clause-in_order g c honest = none_made (g.S.Store.contents c.args.store.now).files (changes_requested (session_of_kept c.args.session.now) (command_of c.args.command.now))
-
-pub returns-in_err-journals-clause-in_order : goal.returns-in_err-journals-clause-in_order
-returns-in_err-journals-clause-in_order g c honest =
-    let files = (g.S.Store.contents c.args.store.now).files in
-    let requested = changes_requested (session_of_kept c.args.session.now) (command_of c.args.command.now) in
-    any_err c.from_residual.result (IfOk requested (λ changes. (n : ℕ) × (files ≡ effects files (take n changes)))) (none_made files requested)
-
--- ---- the store is left alone
-
--- ---- no action is a verify
-
-pub returns-in-Err-prepare-clause-verify : goal.returns-in-Err-prepare-clause-verify
-returns-in-Err-prepare-clause-verify g c is = absurd (not_verify c.in-Act.action (subst (λ (x : Command). IsVerify (command_of x)) c.in-Act.is is))
-
-pub returns-in_err-journals-clause-verify : goal.returns-in_err-journals-clause-verify
-returns-in_err-journals-clause-verify g c is = absurd (not_verify c.in-Act.action (subst (λ (x : Command). IsVerify (command_of x)) c.in-Act.is is))
-
-pub returns-in-Ok-write_down-clause-verify : goal.returns-in-Ok-write_down-clause-verify
-returns-in-Ok-write_down-clause-verify g c is = absurd (not_verify c.in-Act.action (subst (λ (x : Command). IsVerify (command_of x)) c.in-Act.is is))
-
-pub returns-in-Err-write_down-clause-verify : goal.returns-in-Err-write_down-clause-verify
-returns-in-Err-write_down-clause-verify g c is = absurd (not_verify c.in-Act.action (subst (λ (x : Command). IsVerify (command_of x)) c.in-Act.is is))
+pub returns-in-Err-clause-stored : goal.returns-in-Err-clause-stored
+returns-in-Err-clause-stored g c = stays_on g.S.Store c.args.command.now c.args.store.now _ _ _ tt (λ _. refl)
 
 -- ---- what its session refuses
 
-pub returns-in_err-journals-clause-early : goal.returns-in_err-journals-clause-early
-returns-in_err-journals-clause-early g c fault is = absurd (ok_no_err _ _ (c.in-Ok-prepare.ensures.early fault (ap (λ (x : Command). early_refusal_of c.args.session.now.folder.files (command_of x)) (sym c.in-Act.is) ∙ is)))
+pub returns-in-Err-prepare-clause-stored : goal.returns-in-Err-prepare-clause-stored
+returns-in-Err-prepare-clause-stored g c = stays_on g.S.Store c.args.command.now c.args.store.now _ _ _ tt (no_verify c.args.command.now c.in-Act.action c.in-Act.is)
 
-pub returns-in_err-journals-clause-nothing_to_undo : goal.returns-in_err-journals-clause-nothing_to_undo
-returns-in_err-journals-clause-nothing_to_undo g c is none = absurd (ok_no_err _ _ (c.in-Ok-prepare.ensures.nothing_to_undo (ap command_of (sym c.in-Act.is) ∙ is) none))
+pub returns-in-Err-prepare-clause-keeps : goal.returns-in-Err-prepare-clause-keeps
+returns-in-Err-prepare-clause-keeps g c = record { honest = λ h. h; kept = λ _ _. tt; later = omega arith; counted = session_counts _ _ c.in-Err-prepare.fault; steady = tt }
 
-pub returns-in_err-journals-clause-nothing_to_redo : goal.returns-in_err-journals-clause-nothing_to_redo
-returns-in_err-journals-clause-nothing_to_redo g c is none = absurd (ok_no_err _ _ (c.in-Ok-prepare.ensures.nothing_to_redo (ap command_of (sym c.in-Act.is) ∙ is) none))
+pub returns-in-Err-prepare-clause-calls : goal.returns-in-Err-prepare-clause-calls
+returns-in-Err-prepare-clause-calls g c = record { done = tt; refused = session_counts _ _ c.in-Err-prepare.fault }
 
-pub returns-in-Err-write_down-clause-early : goal.returns-in-Err-write_down-clause-early
-returns-in-Err-write_down-clause-early g c fault is = absurd (ok_no_err _ _ (c.in-Ok-prepare.ensures.early fault (ap (λ (x : Command). early_refusal_of c.args.session.now.folder.files (command_of x)) (sym c.in-Act.is) ∙ is)))
+-- what is refused at once isn't prepared
+none_at_once : (g : _) (c : In-Ok-prepare g) (result : Result Outcome PerformFault) → RefusesAtOnce (command_of c.args.command.now) c.args.session.now result
+none_at_once g c result =
+    let ready = c.in-Ok-prepare.ensures in
+    record {
+      early = λ fault is. absurd (ok_no_err _ _ (ready.early fault (ap (λ (x : Command). early_refusal_of c.args.session.now.folder.files (command_of x)) (sym c.in-Act.is) ∙ is)));
+      nothing_to_undo = λ is none. absurd (ok_no_err _ _ (ready.nothing_to_undo (ap command_of (sym c.in-Act.is) ∙ is) none));
+      nothing_to_redo = λ is none. absurd (ok_no_err _ _ (ready.nothing_to_redo (ap command_of (sym c.in-Act.is) ∙ is) none));
+    }
 
-pub returns-in-Err-write_down-clause-nothing_to_undo : goal.returns-in-Err-write_down-clause-nothing_to_undo
-returns-in-Err-write_down-clause-nothing_to_undo g c is none = absurd (ok_no_err _ _ (c.in-Ok-prepare.ensures.nothing_to_undo (ap command_of (sym c.in-Act.is) ∙ is) none))
+pub returns-in_err-journals-clause-at_once : goal.returns-in_err-journals-clause-at_once
+returns-in_err-journals-clause-at_once g c = none_at_once g (goal.at.returns-in_err-journals-clause-at_once g c).In-Ok-prepare _
 
-pub returns-in-Err-write_down-clause-nothing_to_redo : goal.returns-in-Err-write_down-clause-nothing_to_redo
-returns-in-Err-write_down-clause-nothing_to_redo g c is none = absurd (ok_no_err _ _ (c.in-Ok-prepare.ensures.nothing_to_redo (ap command_of (sym c.in-Act.is) ∙ is) none))
+pub returns-in_err-journals-clause-stored : goal.returns-in_err-journals-clause-stored
+returns-in_err-journals-clause-stored g c =
+    stays_on g.S.Store c.args.command.now c.args.store.now _ _ c.from_residual.result (IfOk-from_err c.from_residual.result _ c.from_residual.ensures.0) (no_verify c.args.command.now c.in-Act.action c.in-Act.is)
+
+pub returns-in-Err-write_down-clause-at_once : goal.returns-in-Err-write_down-clause-at_once
+returns-in-Err-write_down-clause-at_once g c = none_at_once g (goal.at.returns-in-Err-write_down-clause-at_once g c).In-Ok-prepare _
 
 -- ---- an action
 
@@ -104,49 +116,53 @@ opens_so g c files apart left stop =
     (stopped_opens (action_of c.in-Act.action) c.args.session.now c.in-Ok-prepare.prepared c.prepare.new.self (made_of g c) c.in_ok-journals.journals (spelled_so g c) (g.S.Store.contents c.args.store.now) files left (stop_of g c left stop)
     (subst (λ (x : Command). FingerprintsDifferAlong session (command_of x)) c.in-Act.is apart) c.in-Ok-prepare.ensures.leads)
 
-pub returns-in-Ok-write_down-clause-written : goal.returns-in-Ok-write_down-clause-written
-returns-in-Ok-write_down-clause-written g c honest files =
+possible_so : (g : _) (c : After-write_down g) → IsOn g.S.Store c.args.store.now c.args.session.now → g.S.Store.impossible c.write_down.new.store ≡ g.S.Store.impossible c.args.store.now
+possible_so g c on = c.write_down.ensures.written.possible on.honest
+    (ready_applies (action_of c.in-Act.action) c.args.session.now c.in-Ok-prepare.prepared c.prepare.new.self (made_of g c) (g.S.Store.contents c.args.store.now) on.files _ (changed_so g c))
+
+-- the store holds the session afterwards
+pub returns-in-Ok-write_down-clause-stored : goal.returns-in-Ok-write_down-clause-stored
+returns-in-Ok-write_down-clause-stored g c =
     let kind = c.in-Ok-prepare.prepared.kind in
     let mid = c.prepare.new.self in
-    let at = (goal.at.returns-in-Ok-write_down-clause-written g c).After-write_down in
+    let at = (goal.at.returns-in-Ok-write_down-clause-stored g c).After-write_down in
     let journals = c.in_ok-journals.journals in
     let given = c.in-Act.action in
     let start = g.S.Store.contents c.args.store.now in
     let new = g.S.Store.contents c.write_down.new.store in
-    let there : new ≡ after_write_down start journals (changes_by_kind kind mid) = c.in-Ok-write_down.ensures.written.done honest ∙ ap (after_write_down start journals) (changed_so g at) in
     let after : c.commit.new.self ≡ after_commit kind mid = c.commit.ensures.session ∙ (λ i. after_commit (c.in_ok-journals.ensures.prepared i).kind (c.in_ok-journals.ensures.unchanged i)) in
-    let all : HoldsJournaled (session_of_kept (after_commit kind mid)) (after_write_down start journals (changes_by_kind kind mid)) =
-    written_down (action_of given) c.args.session.now c.in-Ok-prepare.prepared mid (made_of g at) journals (spelled_so g at) start files in
-    subst (λ (x : Command). IsWritten (command_of x) (session_of_kept c.commit.new.self) start new) (sym c.in-Act.is)
-    (written_by given (session_of_kept c.commit.new.self) start new (rw (there, after) all))
+    record {
+      verify = no_verify c.args.command.now given c.in-Act.is;
+      unchanged = λ reason is. absurd (let no : ⊥ = cc is in no);
+      written = λ on.
+          let there : new ≡ after_write_down start journals (changes_by_kind kind mid) = c.in-Ok-write_down.ensures.written.done on.honest ∙ ap (after_write_down start journals) (changed_so g at) in
+          let all : HoldsJournaled (session_of_kept (after_commit kind mid)) (after_write_down start journals (changes_by_kind kind mid)) =
+          written_down (action_of given) c.args.session.now c.in-Ok-prepare.prepared mid (made_of g at) journals (spelled_so g at) start on.files in
+          subst (λ (x : Command). IsWritten (command_of x) (session_of_kept c.commit.new.self) start new) (sym c.in-Act.is)
+          (written_by given (session_of_kept c.commit.new.self) start new (rw (there, after) all));
+      stopped = λ _ _. tt;
+      cut = λ on durable apart left may. opens_so g at on.files apart left (c.write_down.ensures.written.remains on.honest durable left may);
+      in_order = λ _. tt;
+      possible = possible_so g at;
+    }
 
-pub returns-in-Err-write_down-clause-stopped : goal.returns-in-Err-write_down-clause-stopped
-returns-in-Err-write_down-clause-stopped g c honest files apart =
-    opens_so g (goal.at.returns-in-Err-write_down-clause-stopped g c).After-write_down files apart (g.S.Store.contents c.write_down.new.store) (c.in-Err-write_down.ensures.written.stopped honest)
-
-pub returns-in-Err-write_down-clause-in_order : goal.returns-in-Err-write_down-clause-in_order
-returns-in-Err-write_down-clause-in_order g c honest =
-    let at = (goal.at.returns-in-Err-write_down-clause-in_order g c).After-write_down in
+-- the store failed
+pub returns-in-Err-write_down-clause-stored : goal.returns-in-Err-write_down-clause-stored
+returns-in-Err-write_down-clause-stored g c =
+    let at = (goal.at.returns-in-Err-write_down-clause-stored g c).After-write_down in
     let start = g.S.Store.contents c.args.store.now in
     let new = g.S.Store.contents c.write_down.new.store in
-    subst (λ (x : Command). IfOk (changes_requested (session_of_kept c.args.session.now) (command_of x)) (λ changes. (n : ℕ) × (new.files ≡ effects start.files (take n changes)))) (sym c.in-Act.is)
-    (requested_in_order (action_of c.in-Act.action) c.args.session.now c.in-Ok-prepare.prepared c.prepare.new.self (made_of g at) start c.in_ok-journals.journals new (stop_of g at new (c.in-Err-write_down.ensures.written.stopped honest)))
-
-possible_so : (g : _) (c : After-write_down g) → g.S.Store.honest c.args.store.now → (g.S.Store.contents c.args.store.now).files ≡ c.args.session.now.folder.files → g.S.Store.impossible c.write_down.new.store ≡ g.S.Store.impossible c.args.store.now
-possible_so g c honest files = c.write_down.ensures.possible honest
-    (ready_applies (action_of c.in-Act.action) c.args.session.now c.in-Ok-prepare.prepared c.prepare.new.self (made_of g c) (g.S.Store.contents c.args.store.now) files _ (changed_so g c))
-
-pub returns-in-Ok-write_down-clause-possible : goal.returns-in-Ok-write_down-clause-possible
-returns-in-Ok-write_down-clause-possible g c = possible_so g (goal.at.returns-in-Ok-write_down-clause-possible g c).After-write_down
-
-pub returns-in-Err-write_down-clause-possible : goal.returns-in-Err-write_down-clause-possible
-returns-in-Err-write_down-clause-possible g c = possible_so g (goal.at.returns-in-Err-write_down-clause-possible g c).After-write_down
-
-pub returns-in-Ok-write_down-clause-cut : goal.returns-in-Ok-write_down-clause-cut
-returns-in-Ok-write_down-clause-cut g c honest durable files apart left may = opens_so g (goal.at.returns-in-Ok-write_down-clause-cut g c).After-write_down files apart left (c.write_down.ensures.written.remains honest durable left may)
-
-pub returns-in-Err-write_down-clause-cut : goal.returns-in-Err-write_down-clause-cut
-returns-in-Err-write_down-clause-cut g c honest durable files apart left may = opens_so g (goal.at.returns-in-Err-write_down-clause-cut g c).After-write_down files apart left (c.write_down.ensures.written.remains honest durable left may)
+    record {
+      verify = no_verify c.args.command.now c.in-Act.action c.in-Act.is;
+      unchanged = λ reason is. absurd (let no : ⊥ = cc is in no);
+      written = λ _. tt;
+      stopped = λ on apart. opens_so g at on.files apart new (c.in-Err-write_down.ensures.written.stopped on.honest);
+      cut = λ on durable apart left may. opens_so g at on.files apart left (c.write_down.ensures.written.remains on.honest durable left may);
+      in_order = λ honest.
+          subst (λ (x : Command). IfOk (changes_requested (session_of_kept c.args.session.now) (command_of x)) (λ changes. (n : ℕ) × (new.files ≡ effects start.files (take n changes)))) (sym c.in-Act.is)
+          (requested_in_order (action_of c.in-Act.action) c.args.session.now c.in-Ok-prepare.prepared c.prepare.new.self (made_of g at) start c.in_ok-journals.journals new (stop_of g at new (c.in-Err-write_down.ensures.written.stopped honest)));
+      possible = possible_so g at;
+    }
 
 -- ---- the writing calls
 
@@ -160,12 +176,10 @@ calls_so g c =
 
 pub returns-in-Ok-write_down-clause-calls : goal.returns-in-Ok-write_down-clause-calls
 returns-in-Ok-write_down-clause-calls g c =
-    c.in-Ok-write_down.ensures.calls.calls ∙ ap (λ n. g.S.Store.writing_calls c.args.store.now + n) (calls_so g (goal.at.returns-in-Ok-write_down-clause-calls g c).After-write_down)
+    record { done = c.in-Ok-write_down.ensures.written.calls.done ∙ ap (λ n. g.S.Store.writing_calls c.args.store.now + n) (calls_so g (goal.at.returns-in-Ok-write_down-clause-calls g c).After-write_down); refused = tt }
 
-pub returns-in-Ok-write_down-clause-at_most : goal.returns-in-Ok-write_down-clause-at_most
-returns-in-Ok-write_down-clause-at_most g c =
-    subst (λ n. AreAtMost n (g.S.Store.writing_calls c.args.store.now) (g.S.Store.writing_calls c.write_down.new.store)) (calls_so g (goal.at.returns-in-Ok-write_down-clause-at_most g c).After-write_down) c.write_down.ensures.calls.at_most
-
-pub returns-in-Err-write_down-clause-at_most : goal.returns-in-Err-write_down-clause-at_most
-returns-in-Err-write_down-clause-at_most g c =
-    subst (λ n. AreAtMost n (g.S.Store.writing_calls c.args.store.now) (g.S.Store.writing_calls c.write_down.new.store)) (calls_so g (goal.at.returns-in-Err-write_down-clause-at_most g c).After-write_down) c.write_down.ensures.calls.at_most
+pub returns-in-Err-write_down-clause-calls : goal.returns-in-Err-write_down-clause-calls
+returns-in-Err-write_down-clause-calls g c = record {
+  done = tt;
+  refused = subst (λ n. AreAtMost n (g.S.Store.writing_calls c.args.store.now) (g.S.Store.writing_calls c.write_down.new.store)) (calls_so g (goal.at.returns-in-Err-write_down-clause-calls g c).After-write_down) c.in-Err-write_down.ensures.written.calls.refused;
+}

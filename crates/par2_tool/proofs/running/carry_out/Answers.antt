@@ -1,4 +1,4 @@
-use Rattle.par2_tool.proofs.Common.{Err, ◌≡◌, ◌+◌, inl, inr, arith, false, sym, ap, subst, ◌∙◌, le_trans, refl, by_either, Contents, Started, session_of_kept, command_of, calls_requested, outcome_of, failure_for, started_of, IsOpened, ContentsAreDurable, IsBack, IsFailed, IsResult, Failed, IsStopped, Failure, words_requested}
+use Rattle.par2_tool.proofs.Common.{Err, ◌≡◌, ◌+◌, ◌<◌, inl, inr, arith, false, sym, ap, subst, ◌∙◌, le_trans, refl, by_either, Contents, Started, session_of_kept, command_of, calls_requested, outcome_of, failure_for, started_of, IsOpened, ContentsAreDurable, IsBack, IsCounted, IsFailed, IsResult, Failed, IsStopped, Failure, words_requested}
 use Rattle.par2_tool.proofs.Outcomes.{done_for, files_of, no_way_back, verify_failed, cut_of_command, opening_cause, opening_failed, perform_cause, perform_failed, stopped_opening}
 use Rattle.par2_tool.proofs.Calls.{opening_calls, perform_calls, run_calls, stands_calls}
 use Rattle.par2_tool.proofs.running.carry_out.Goals.{After-open_for, After-perform}
@@ -15,7 +15,8 @@ returns-in-Err-clause-failed g c =
     let opens = c.in-Err.ensures.opens in
     subst (λ (f : Failure). IsResult g.S.Store action store opened (Failed (words_requested action) f)) (sym c.from.ensures) (
       refl,
-      opening_cause action _ _ c.in-Err.fault c.in-Err.ensures.keeps.counted,
+      opening_cause action c.in-Err.fault,
+      c.in-Err.ensures.keeps.counted,
       λ honest. (
         opening_failed action old (g.S.Store.contents opened) c.in-Err.fault (opens honest).refused (opens honest).stopped,
         opening_calls action old _ _ c.in-Err.fault (opens honest).calls,
@@ -28,11 +29,12 @@ returns-then-lacks_history-clause-failed g c =
     let back = c.lacks_history.ensures.back c.if-lacks_history.true in
     let opened = c.in-Ok.ensures in (
       refl,
+      tt,
       opened.keeps.steady,
       λ honest.
           let counted = (opened.opens honest).calls in (
             by_either opened.opened.1 (λ same. inr (back, opened.opened.0, opened.opened.2 honest, ap (λ (t : Started). t.dropped) same ∙ sym (c.lacks_history.ensures.dropped back) ∙ c.if-lacks_history.true)) (λ verify. absurd (no_way_back action verify.0 back)),
-            (counted.0, counted.1, counted.2.opened),
+            (counted.0, counted.1, counted.2.done),
           ),
     )
 
@@ -48,17 +50,17 @@ returns-in-Ok-perform-clause-done g c =
     let done =
     done_for (g.S.Store.honest store) old (g.S.Store.contents c.open_for.new.store) (g.S.Store.contents c.perform.new.store)
     found.0 (session_of_kept started.session) (session_of_kept c.perform.new.session) started.dropped (outcome_of c.in-Ok-perform.outcome) found.2
-    action found.1 performed.answer performed.session performed.leads
-    (λ honest files. performed.written (opening.keeps.honest honest) files) in (
+    action found.1 performed.done.answer performed.done.after performed.done.leads
+    (λ honest files. performed.stored.written (record { honest = opening.keeps.honest honest; files = files })) in (
       done.0,
       done.1,
       (
-        performed.steady ∙ opening.keeps.steady,
-        (session_of_kept started.session, performed.answer),
+        performed.keeps.steady ∙ opening.keeps.steady,
+        (session_of_kept started.session, performed.done.answer),
         λ honest.
             let counted = (opening.opens honest).calls in
-            let run = run_calls action old (g.S.Store.writing_calls store) (g.S.Store.writing_calls c.open_for.new.store) (g.S.Store.writing_calls c.perform.new.store) counted.0 found.0 (session_of_kept started.session) counted.1 (found.2 honest).opens counted.2.opened (stands_calls action found.0 (started_of started) found.1) in
-            (done.2 honest, counted.0 + calls_requested (session_of_kept started.session) action, run, omega (arith, counted.2.opened, performed.calls)),
+            let run = run_calls action old (g.S.Store.writing_calls store) (g.S.Store.writing_calls c.open_for.new.store) (g.S.Store.writing_calls c.perform.new.store) counted.0 found.0 (session_of_kept started.session) counted.1 (found.2 honest).opens counted.2.done (stands_calls action found.0 (started_of started) found.1) in
+            (done.2 honest, counted.0 + calls_requested (session_of_kept started.session) action, run, omega (arith, counted.2.done, performed.calls.done)),
       ),
     )
 
@@ -80,28 +82,29 @@ returns-clause-failed g c =
     let failing : g.S.Store.honest store → IsFailed action old new (failure_for fault) = (λ honest. elim found.1 as (λ _. IsFailed action old new (failure_for fault)) [
       | inl same ↦ (
           let there : IsOpened old mid (started_of started) = subst (λ (t : Started). IsOpened old mid t) same (found.2 honest) in
-          perform_failed action old mid new started.session c.perform.new.session started.dropped there back (g.S.Store.failures opened) (g.S.Store.failures after)
-          fault performed.refused (λ reason is. performed.unchanged reason (opening.keeps.honest honest) (ap Err is)) (performed.stopped (opening.keeps.honest honest) there.holds.files))
+          perform_failed action old mid new started.session c.perform.new.session started.dropped there back
+          fault performed.refused (λ reason is. ap g.S.Store.contents (performed.stored.unchanged reason (ap Err is))) (performed.stored.stopped (record { honest = opening.keeps.honest honest; files = there.holds.files })))
       | inr verify ↦ verify_failed action old mid new found.0 started.session c.perform.new.session verify.0 verify.1 (found.2 honest)
-          (ap g.S.Store.contents (c.perform.ensures.verify verify.0).0) (g.S.Store.failures opened) (g.S.Store.failures after) fault performed.refused
+          (ap g.S.Store.contents (c.perform.ensures.stored.verify verify.0).0) fault performed.refused
     ]) in
     subst (λ (f : Failure). IsResult g.S.Store action store after (Failed (words_requested action) f)) (sym c.from-in-Err-perform.ensures) (
       refl,
-      perform_cause action started.session c.perform.new.session _ (g.S.Store.failures opened) _ fault opening.keeps.steady performed.refused,
+      perform_cause action started.session c.perform.new.session fault performed.refused,
+      subst (λ n. IsCounted (n < g.S.Store.failures after) n (g.S.Store.failures after) (failure_for fault)) opening.keeps.steady performed.keeps.counted,
       λ honest.
           let counted = (opening.opens honest).calls in (
             failing honest,
-            perform_calls action old (g.S.Store.writing_calls store) (g.S.Store.writing_calls opened) (g.S.Store.writing_calls after) counted.0 found.0 (session_of_kept started.session) counted.1 (found.2 honest).opens counted.2.opened (stands_calls action found.0 (started_of started) found.1) fault c.perform.ensures.at_most (λ reason is. performed.unwritten reason (ap Err is)),
+            perform_calls action old (g.S.Store.writing_calls store) (g.S.Store.writing_calls opened) (g.S.Store.writing_calls after) counted.0 found.0 (session_of_kept started.session) counted.1 (found.2 honest).opens counted.2.done (stands_calls action found.0 (started_of started) found.1) fault performed.calls.refused,
           ),
     )
 
 -- ---- the store stays honest, and the count of failures only grows
 
 pub returns-in-Ok-perform-clause-later : goal.returns-in-Ok-perform-clause-later
-returns-in-Ok-perform-clause-later g c = le_trans c.in-Ok.ensures.keeps.later c.in-Ok-perform.ensures.later
+returns-in-Ok-perform-clause-later g c = le_trans c.in-Ok.ensures.keeps.later c.in-Ok-perform.ensures.keeps.later
 
 pub returns-clause-later : goal.returns-clause-later
-returns-clause-later g c = le_trans c.in-Ok.ensures.keeps.later c.in-Err-perform.ensures.later
+returns-clause-later g c = le_trans c.in-Ok.ensures.keeps.later c.in-Err-perform.ensures.keeps.later
 
 -- ---- what a power cut leaves
 
@@ -125,8 +128,8 @@ command_cut g c honest durable left may =
     let found = opening.opened in
     cut_of_command (g.S.Store.honest c.args.store.now) (command_of c.args.command.now) (g.S.Store.contents c.args.store.now) (g.S.Store.contents c.open_for.new.store) left found.0 (started_of c.in-Ok.started)
     honest found.1 found.2
-    (λ files along. c.perform.ensures.cut (opening.keeps.honest honest) (opening.keeps.kept honest durable) files along left may)
-    (λ verify. opening.keeps.kept honest durable left (subst (λ store. g.S.Store.crash_states store left) (c.perform.ensures.verify verify).0 may))
+    (λ files along. c.perform.ensures.stored.cut (record { honest = opening.keeps.honest honest; files = files }) (opening.keeps.kept honest durable) along left may)
+    (λ verify. opening.keeps.kept honest durable left (subst (λ store. g.S.Store.crash_states store left) (c.perform.ensures.stored.verify verify).0 may))
 
 pub returns-in-Ok-perform-clause-cut : goal.returns-in-Ok-perform-clause-cut
 returns-in-Ok-perform-clause-cut g c = command_cut g (goal.at.returns-in-Ok-perform-clause-cut g c).After-perform
@@ -141,7 +144,7 @@ possible_so g c honest =
     let opening = c.in-Ok.ensures in
     let found = opening.opened in
     let on = files_of (command_of c.args.command.now) (g.S.Store.contents c.args.store.now) (g.S.Store.contents c.open_for.new.store) found.0 (started_of c.in-Ok.started) found.1 (found.2 honest) in
-    c.perform.ensures.possible (opening.keeps.honest honest) on ∙ (opening.opens honest).possible
+    c.perform.ensures.stored.possible (record { honest = opening.keeps.honest honest; files = on }) ∙ (opening.opens honest).possible
 
 pub returns-in-Ok-perform-clause-possible : goal.returns-in-Ok-perform-clause-possible
 returns-in-Ok-perform-clause-possible g c = possible_so g (goal.at.returns-in-Ok-perform-clause-possible g c).After-perform

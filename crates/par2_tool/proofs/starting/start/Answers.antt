@@ -1,7 +1,7 @@
 use Rattle.par2_tool.proofs.Common.{◌∙◌, ◌≡◌, Result, Ok, Err, [], inr, refl, subst, drop, map, string_bytes, Failed, IsUnread, IfOk, IsOk, IfOk-weaker, IfErr-weaker, IsRun, IsShown}
 use Rattle.std.specs.Vec.Iter.{into_iter_items}
-use Rattle.par2_spec.specs.declared.Failure.TheVariants as failure
-use Rattle.par2_spec.specs.declared.Fault.TheVariants as fault
+use Rattle.std.specs.IoError.{error_kind}
+use Rattle.par2_tool.specs.Runs.{failure_of_kind}
 use Rattle.par2_tool.proofs.starting.start.Goals as goal
 
 -- what holds of all arguments holds of those that were given
@@ -28,26 +28,14 @@ returns-in-Err-clause-run g c =
       shown = (c.fail.ensures, refl {a = c.args.out.now});
     })
 
-pub returns-in-Err-clause-memory : goal.returns-in-Err-clause-memory
-returns-in-Err-clause-memory g c =
+pub returns-in-Err-clause-refused : goal.returns-in-Err-clause-refused
+returns-in-Err-clause-refused g c =
     IfErr-weaker c.args.given _ _
-    (λ error known is.
-    let same : c.in-Err.failure ≡ failure.Refused fault.Memory = (let all = known is in cc) in (
+    (λ error known.
+    let same : c.in-Err.failure ≡ failure_of_kind (error_kind error) = (let is = known in cc) in (
       subst
           (λ reason. IsShown (Failed [] reason) g.O.Write.contents c.args.out.now c.args.out.now g.E.Write.contents c.args.err.now c.fail.new.err c.fail.result)
           same (c.fail.ensures, refl {a = c.args.out.now}),
       refl {a = c.args.store.now},
     ))
-    c.in-Err.ensures.memory
-
-pub returns-in-Err-clause-arguments : goal.returns-in-Err-clause-arguments
-returns-in-Err-clause-arguments g c =
-    IfErr-weaker c.args.given _ _
-    (λ error known is.
-    let same : c.in-Err.failure ≡ failure.Arguments = (let all = known is in cc) in (
-      subst
-          (λ reason. IsShown (Failed [] reason) g.O.Write.contents c.args.out.now c.args.out.now g.E.Write.contents c.args.err.now c.fail.new.err c.fail.result)
-          same (c.fail.ensures, refl {a = c.args.out.now}),
-      refl {a = c.args.store.now},
-    ))
-    c.in-Err.ensures.arguments
+    c.in-Err.ensures.refused

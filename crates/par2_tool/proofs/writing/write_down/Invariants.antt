@@ -1,6 +1,6 @@
 use Rattle.par2_tool.proofs.Common.{◌≡◌, ◌+◌, ◌≤◌, length, IsTrue, map, take, are_applicable, change_of, with_all_changes}
 use Rattle.par2_disk.specs.Cuts.{IsDurable}
-use Rattle.par2_tool.proofs.writing.write_changes.Given as goal
+use Rattle.par2_tool.proofs.writing.write_down.Given as goal
 
 abbrev pub invariant-loop-change : goal.invariant-loop-change
 invariant-loop-change g l = record {
