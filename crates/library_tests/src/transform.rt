@@ -7,7 +7,7 @@ ghost use Rattle.par2_transform.specs.Adding.{HaveWords};
 use crate::calls::{are_buffers, lists_of, places_of};
 use crate::gf16::field;
 use par2_gf16::Gf;
-use par2_transform::{Place, add_recovery_slices, whole_buffers};
+use par2_transform::{Place, Transform, whole_buffers};
 use recovery_calls::slices_added;
 use std::process::Abort;
 
@@ -53,7 +53,9 @@ fn are_added(
     if !have_words(buffers, words) {
         return false;
     }
-    add_recovery_slices(rt.alloc(), gf, slices, words, first, buffers, ROOM).expect(rt, "memory");
+    let room = ROOM;
+    let transform = Transform { gf, slices, room };
+    transform.add_recovery_slices(rt.alloc(), words, first, buffers).expect(rt, "memory");
     true
 }
 

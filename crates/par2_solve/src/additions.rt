@@ -21,7 +21,7 @@ use crate::spans::close_span;
 use crate::syndromes::windows;
 use par2_gf16::Gf;
 use par2_spec::Result;
-use par2_transform::{Places, add_recovery_slices_at, add_to_output, whole_buffers};
+use par2_transform::{Columns, Places, Transform, whole_buffers};
 use std::alloc::Global;
 
 // The fewest exponents and slices for which the transform is used. With fewer, it is faster to compute each recovery
@@ -76,9 +76,11 @@ pub(crate) fn add_sums(
         (lists_of buffers.old) (lists_of buffers.new) }
 {
     let ColumnRange { from, to } = columns;
+    let outputs = *at;
+    let range = Columns { outputs, from, to };
     fit_lists(sums);
     for t in 0..sums.len() {
-        add_to_output(gf, 1, buffer_at(sums, t), buffers, at, t, from, to);
+        range.add(gf, 1, buffer_at(sums, t), buffers, t);
     }
 }
 
@@ -244,7 +246,8 @@ impl<'a> Encoder<'a> {
         let outputs = &targets.outputs;
         match run_together(targets.exponents, slices.len()) {
             Some(first) => {
-                add_recovery_slices_at(alloc, gf, slices, first, buffers, outputs, room)
+                let transform = Transform { gf, slices, room };
+                transform.add_recovery_slices_at(alloc, first, buffers, outputs)
             }
             None => self.add_as_sums(alloc, targets, buffers),
         }

@@ -13,7 +13,7 @@ use crate::products::{ColumnRange, buffer_at};
 use crate::recovery::blank;
 use par2_gf16::Gf;
 use par2_spec::Result;
-use par2_transform::{Places, add_recovery_slices};
+use par2_transform::{Places, Transform};
 use std::alloc::Global;
 
 // Whether all exponents are among the `count` numbers from `first` on.
@@ -76,7 +76,8 @@ impl<'a> Encoder<'a> {
         fit_output(buffers, outputs);
         let (first, to) = (targets.exponents[0], outputs.words);
         let mut all = blank(alloc, count, 2 * to)?;
-        add_recovery_slices(alloc, gf, slices, to, first, all.as_mut_slice(), room)?;
+        let transform = Transform { gf, slices, room };
+        transform.add_recovery_slices(alloc, to, first, all.as_mut_slice())?;
         let sums = picked(alloc, &all, targets.exponents, first)?;
         add_sums(gf, &sums, ColumnRange { from: 0, to }, buffers, outputs);
         Ok(())

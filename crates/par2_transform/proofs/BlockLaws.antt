@@ -1,11 +1,22 @@
 -- Blocks of outputs, one after the other.
-use Rattle.par2_transform.proofs.Common.{inl, inr, ℕ, ◌+◌, ◌*◌, ◌<◌, ◌≡◌, ◌≢◌, refl, sym, ap, ap₂, subst, ◌∙◌, arith, bit_xor, List, [], ◌∷◌, ◌++◌, length, get_or, length-append, get_or_append_left, get_or_at, get_or_default, get_or-set_other, get_or-set_same, length-set, mul, Grid, column, IsAdded, cases_eq, cases_lt, AddsAt, Outputs, IsBlock, AreBlocks, RowsGathered, OneBecomes, BlocksBecome, Keeps, outputs_at, block_part, weight_at, Cut, HasWeights, Place, field_sum}
+use Rattle.par2_transform.proofs.Common.{inl, inr, ℕ, ◌+◌, ◌-◌, ◌*◌, ◌<◌, ◌≡◌, ◌≢◌, refl, sym, ap, ap₂, subst, ◌∙◌, arith, bit_xor, List, [], ◌∷◌, ◌++◌, length, get_or, length-append, get_or_append_left, get_or_at, get_or_default, get_or-set_other, get_or-set_same, length-set, mul, Grid, column, IsAdded, cases_eq, cases_lt, AddsAt, Outputs, IsBlock, AreBlocks, RowsGathered, BlocksBecome, Keeps, from_gathered, within, outputs_at, weight_at, Cut, HasWeights, Place, field_sum}
 use Rattle.std.proofs.Math.ListN.{set}
 use Rattle.par2_transform.proofs.AddingLaws.{adds_none, adds_next}
+
+-- the part of block j, of `size` outputs, in word p of output t, for the columns from `from` up to `to`
+abbrev pub block_part : Cut → ℕ → ℕ → ℕ → ℕ → Outputs → ℕ → ℕ → ℕ → ℕ
+block_part cut size r from to block j t p =
+    within (j * size) (j * size + size) t (within from to p (from_gathered cut (column block.sums (p - from)) block.exponent (t - j * size) r))
 
 -- a block is read whatever the default is
 pub is_block_at : (blocks : List Outputs) (j : ℕ) (block : Outputs) → j < length blocks → get_or blocks j block ≡ outputs_at blocks j
 is_block_at blocks j block low = get_or_default blocks j block _ low
+
+-- block j changes by the relation, and no other block changes
+pub record OneBecomes (relation : Outputs → Outputs → Type 0) (j : ℕ) (old new : List Outputs) : Type 0 where
+  pub count : length new ≡ length old
+  pub here : relation (outputs_at old j) (outputs_at new j)
+  pub others : (i : ℕ) → i ≢ j → outputs_at new i ≡ outputs_at old i
 
 -- a block is set
 pub one_set : (relation : Outputs → Outputs → Type 0) (blocks : List Outputs) (j : ℕ) (block new : Outputs) → j < length blocks → relation (get_or blocks j block) new → OneBecomes relation j blocks (set blocks j new)

@@ -1,6 +1,7 @@
 -- From blocks of outputs to the part of a class, and from classes to recovery slices.
-use Rattle.par2_transform.proofs.Common.{inl, inr, ℕ, suc, ◌+◌, ◌-◌, ◌*◌, ◌/◌, ◌%◌, ◌^◌, ◌<◌, ◌≤◌, ◌≡◌, ◌≢◌, refl, sym, ap, ◌∙◌, arith, List, length, [], cases_lt, div-mul-le_self, mul-le-mul_right, mod-lt, lt_of_le-ne, div-add-mod', if◌then◌else◌, not, ◌==◌, ◌&&◌, mul, pow, is_coprime, product-zero, get_or_past, word, list_at, field_sum, word-lt, field_sum_same, field_sum_one, field_sum_none, within, AddsAt, Outputs, IsBlock, IsGathered, EachBlock, AreBlocks, CoverOutputs, HasSize, outputs_at, block_part, from_gathered, class_sum_at, weight_at, chirp_inverse, coprimes_below, AreWordsOfFirst, word_at_power, words_at, AreByteLists, recovered, Grid, column, point, Cut, Reaches, gathered, Place}
+use Rattle.par2_transform.proofs.Common.{inl, inr, ℕ, suc, ◌+◌, ◌-◌, ◌*◌, ◌/◌, ◌%◌, ◌^◌, ◌<◌, ◌≤◌, ◌≡◌, ◌≢◌, refl, sym, ap, ◌∙◌, arith, List, length, [], cases_lt, div-mul-le_self, mul-le-mul_right, mod-lt, lt_of_le-ne, div-add-mod', if◌then◌else◌, not, ◌==◌, ◌&&◌, mul, pow, is_coprime, product-zero, get_or_past, word, list_at, field_sum, word-lt, field_sum_same, field_sum_one, field_sum_none, within, AddsAt, Outputs, IsBlock, IsGathered, EachBlock, AreBlocks, CoverOutputs, HasSize, outputs_at, from_gathered, class_sum_at, weight_at, chirp_inverse, coprimes_below, AreWordsOfFirst, word_at_power, words_at, AreByteLists, recovered, Grid, column, point, Cut, Reaches, gathered, Place}
 use Rattle.std.specs.Prelude.{false}
+use Rattle.par2_transform.proofs.BlockLaws.{block_part}
 use Rattle.par2_transform.proofs.AddingLaws.{adds_none, adds_next, adds_same, within-in, within-below, within-above, within_same}
 use Rattle.par2_transform.proofs.Transforms.{class_by_windows, sum_by_classes}
 

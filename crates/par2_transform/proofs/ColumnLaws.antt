@@ -1,5 +1,5 @@
 -- Columns of words, one block of columns after the other.
-use Rattle.par2_transform.proofs.Common.{subst, sym, div_ceil, div_ceil_times, slice_begins, ℕ, ◌+◌, ◌*◌, ◌<◌, ◌≤◌, ◌≡◌, ap, ◌∙◌, arith, bit_xor, List, min, within, AddsAt, LieWithin, Columns, Places}
+use Rattle.par2_transform.proofs.Common.{Adds, Fit, Global, Vec, lists_of, subst, sym, div_ceil, div_ceil_times, slice_begins, ℕ, ◌+◌, ◌*◌, ◌<◌, ◌≤◌, ◌≡◌, ap, ◌∙◌, arith, bit_xor, List, min, within, AddsAt, LieWithin, Columns, Places}
 use Rattle.par2_transform.proofs.AddingLaws.{adds_none, adds_more, adds_same, still_within, within-in, within-above, within_joined}
 
 -- a block of columns begins before the words end
@@ -11,6 +11,16 @@ pub columns_within : (outputs : Places) (columns : Columns) (other : ℕ → ℕ
     → LieWithin outputs.words outputs.places.now was → LieWithin columns.outputs.words columns.outputs.places.now buffers
 columns_within outputs columns other was buffers same added room =
     subst (λ (o : Places). LieWithin o.words o.places.now buffers) (sym same) (still_within outputs.places.now outputs.words outputs.words other was buffers added room)
+
+pub still_fits : (width : ℕ) (columns : Columns) (other : ℕ → ℕ → ℕ) (was buffers : List (Vec ℕ Global)) → Adds columns.outputs other was buffers → Fit width columns was → Fit width columns buffers
+still_fits width columns other was buffers added fit =
+    let room = still_within columns.outputs.places.now columns.outputs.words columns.outputs.words other (lists_of was) (lists_of buffers) added fit.room in
+    record { narrow = fit.narrow; room = room }
+
+pub wider_fit : (width wider : ℕ) (columns : Columns) (other : ℕ → ℕ → ℕ) (was buffers : List (Vec ℕ Global)) → Adds columns.outputs other was buffers → Fit width columns was → width ≤ wider → Fit wider columns buffers
+wider_fit width wider columns other was buffers added fit more =
+    let still = still_fits width columns other was buffers added fit in
+    record { narrow = omega (arith, still.narrow, more); room = still.room }
 
 -- the words have been added in the first n blocks of columns
 abbrev pub WordsAdded : Places → ℕ → (ℕ → ℕ → ℕ) → ℕ → List (List ℕ) → List (List ℕ) → Type 0

@@ -28,20 +28,23 @@ pub use Rattle.par2_spec.specs.Sums.{GivesElements, OneChanged, list_at, lists_o
 unfoldable pub use Rattle.par2_spec.specs.Sums.{field_sum}
 pub use Rattle.par2_gf16.specs.Products.{AddsWords}
 pub use Rattle.par2_transform.specs.Adding.{AddsAt, AddsBoth, AddsTo, AddsToEach, AddsToPart, AreApart, AreWholeBuffers, HasByte, HaveWords, LieWithin, output_word, place_at, within}
-pub use Rattle.par2_transform.specs.Blocks.{AreBlocks, AreCoefficients, AreWeightRows, AreWindowValues, BlocksBecome, CoverOutputs, EachBlock, Gathers, GathersWindow, HasShape, HaveShape, IsBlock, IsCleared, IsGathered, Keeps, OneBecomes, Outputs, RowsGathered, Takes, outputs_at, block_part, class_sum_at, from_gathered, weight_at}
+pub use Rattle.par2_transform.specs.Blocks.{AreBlocks, AreWeightRows, BlocksBecome, CoverOutputs, EachBlock, Gathers, GathersWindow, HasShape, IsBlock, IsCleared, IsGathered, Keeps, Outputs, RowsGathered, Takes, outputs_at, class_sum_at, from_gathered, weight_at}
 pub use Rattle.par2_transform.specs.Chirps.{AreWordsOfFirst, AreWeights}
 unfoldable pub use Rattle.par2_transform.specs.Chirps.{chirp, chirp_inverse, coprimes_below, triangle, word_at_power}
 pub use Rattle.par2_transform.specs.Columns.{AreByteLists, AreNumbers, recovered, byte_lists, words_at}
 pub use Rattle.par2_transform.specs.Cosets.{AreListedValues, IsListed, listed_by}
 pub use Rattle.par2_transform.specs.Evaluations.{AreZeroFrom, AreValues, from, value}
-pub use Rattle.par2_transform.specs.Grids.{AreCopied, AreRows, CopiesWords, EachColumn, Grid, HasSize, IsAdded, column}
-pub use Rattle.par2_transform.specs.Locators.{AreFit, AreNumbered, AreNumerators, AreValuesOf, HaveFirst, IsWeighed, in_coset, numerator, quotient_coefficient, quotient_sum}
-pub use Rattle.par2_transform.specs.Plans.{cut_of}
+pub use Rattle.par2_transform.specs.Grids.{AreCopied, AreRows, AreTwoRuns, CopiesWords, EachColumn, Grid, HasSize, IsAdded, IsPair, IsRun, column}
+pub use Rattle.par2_transform.specs.Locators.{AreNumbered, AreNumerators, AreValuesOf, HaveFirst, IsWeighed, in_coset, numerator, quotient_coefficient, quotient_sum}
+pub use Rattle.par2_transform.specs.Products.{numerator_word, quotient_word}
+pub use Rattle.par2_transform.specs.Plans.{AreReady, HaveShape, HaveShapes, cut_of, part_from}
 pub use Rattle.par2_transform.specs.PowerSums.{ArePowerSums, IsMerged, member, sum_ahead}
 unfoldable pub use Rattle.par2_transform.specs.PowerSums.{power_sum}
-pub use Rattle.par2_transform.specs.LevelSteps.{AheadAdded, IsButterfly, IsLowered, IsOneAdded, IsRaised, IsSpreadAbove, IsSpreadBelow, OneRun, RunAdded, RunAddedBy, SameValuesOutside, spread_beyond, spread_within}
+pub use Rattle.par2_transform.specs.LevelSteps.{AheadAdded, IsButterfly, IsLowered, IsRaised, IsSpreadAbove, IsSpreadBelow, OneRun, RunAdded, RunAddedBy, SameValuesOutside, spread_beyond, spread_within}
 unfoldable pub use Rattle.par2_transform.specs.Subspaces.{basis, bit_numbers, point, point_number, powers_in, vanishing}
 pub use Rattle.par2_transform.specs.Transforms.{Cut, HasWeights, Reaches, class_part, coefficient_of, gathered, window_value}
+pub use Rattle.par2_transform.specs.Outputs.{Adds, AddsIn, AddsSlices, Fit, LieIn, product_in}
 pub use Rattle.par2_transform.specs.declared.outputs.Columns.{Columns}
 pub use Rattle.par2_transform.specs.declared.outputs.Place.{Place}
 pub use Rattle.par2_transform.specs.declared.outputs.Places.{Places}
+pub use Rattle.par2_transform.specs.declared.plan.Plan.{Plan}

@@ -1,5 +1,5 @@
 -- Rows and their columns.
-use Rattle.par2_transform.proofs.Common.{ℕ, suc, ◌+◌, ◌-◌, ◌*◌, ◌^◌, ◌<◌, ◌≤◌, ◌≡◌, ◌⊎◌, inl, inr, refl, sym, ap, ap₂, ◌∙◌, subst, List, length, get_or, bit_xor, arith, add-mul, one-mul, Vec, Global, xor_zero_r, cases_eq, cases_lt, get_or_past, with_items_is, word, within, AddsBoth, AddsTo, Grid, column, AreCopied, AreRows, CopiesWords, IsAdded, EachColumn, IsButterfly, RunAdded, RunAddedBy, with_items}
+use Rattle.par2_transform.proofs.Common.{AreTwoRuns, HaveFirst, ℕ, suc, ◌+◌, ◌-◌, ◌*◌, ◌^◌, ◌<◌, ◌≤◌, ◌≡◌, ◌⊎◌, inl, inr, refl, sym, ap, ap₂, ◌∙◌, subst, List, length, get_or, bit_xor, arith, add-mul, one-mul, Vec, Global, xor_zero_l, xor_zero_r, cases_eq, cases_lt, get_or_past, with_items_is, word, within, AddsBoth, AddsTo, Grid, column, AreCopied, AreRows, CopiesWords, IsAdded, EachColumn, IsButterfly, RunAdded, RunAddedBy, with_items}
 use Rattle.std.proofs.Common.{mul-le-mul_right}
 use Rattle.par2_transform.proofs.AddingLaws.{within-in, within-below, within-above, within_same}
 use Rattle.par2_transform.proofs.StepLaws.{butterfly_runs}
@@ -68,6 +68,20 @@ rows_before words from to n before = let less : (from + n) * words ≤ to * word
 pub rows_apart : (words from to n : ℕ) → (from + n ≤ to) ⊎ (to + n ≤ from) → (from * words + n * words ≤ to * words) ⊎ (to * words + n * words ≤ from * words)
 rows_apart words from to n (inl before) = inl (rows_before words from to n before)
 rows_apart words from to n (inr after) = inr (rows_before words to from n after)
+
+-- runs that are apart, as bytes
+bytes_apart : (from to n : ℕ) → (from + n ≤ to) ⊎ (to + n ≤ from) → (2 * from + 2 * n ≤ 2 * to) ⊎ (2 * to + 2 * n ≤ 2 * from)
+bytes_apart from to n (inl before) = inl (omega (arith, before))
+bytes_apart from to n (inr after) = inr (omega (arith, after))
+
+-- runs of rows, as bytes
+pub row_runs : (levels words from to n : ℕ) (bytes : List ℕ) → AreRows levels words bytes → AreTwoRuns (2 ^ levels) from to n → AreTwoRuns (length bytes) (2 * (from * words)) (2 * (to * words)) (2 * (n * words))
+row_runs levels words from to n bytes are runs =
+    record {
+      from = omega (arith, rows_fit levels words from n bytes are runs.from);
+      to = omega (arith, rows_fit levels words to n bytes are runs.to);
+      apart = bytes_apart (from * words) (to * words) (n * words) (rows_apart words from to n runs.apart);
+    }
 
 word_past : (p : ℕ) (bytes : List ℕ) → length bytes ≤ 2 * p → word p bytes ≡ 0
 word_past p bytes h = ap₂ (λ a b. a + 256 * b) (get_or_past bytes (2 * p) 0 h) (get_or_past bytes (2 * p + 1) 0 (omega arith))
@@ -190,3 +204,22 @@ zero_column grid zeros c u = elim (cases_lt c grid.words) [
 -- the shape of rows whose bytes are written is unchanged
 pub kept_rows : (levels words : ℕ) (v : Vec ℕ Global) (old new : List ℕ) → AreRows levels words v.items → old ≡ v.items → length new ≡ length old → length new ≡ v.len → AreRows levels words (with_items v new).items
 kept_rows levels words v old new are is same size = record { few = are.few; count = ap length (with_items_is v new size) ∙ same ∙ ap length is ∙ are.count }
+
+-- ---- rows that are filled one after the other
+
+pub no_first : (given : ℕ → ℕ → ℕ) (old new : Grid) → new.levels ≡ old.levels → new.words ≡ old.words → ((c u : ℕ) → column new c u ≡ 0) → HaveFirst 0 given old new
+no_first given old new levels words zero = record { levels = levels; words = words; first = λ c u h l. absurd (omega (arith, l)); none = λ c u h. zero c u }
+
+pub next_first : (given : ℕ → ℕ → ℕ) (i : ℕ) (other : ℕ → ℕ) (old mid new : Grid) → HaveFirst i given old mid → IsAdded mid new i other → ((c : ℕ) → c < old.words → other c ≡ given c i)
+    → HaveFirst (i + 1) given old new
+next_first given i other old mid new so_far added is = record {
+  levels = added.levels ∙ so_far.levels;
+  words = added.words ∙ so_far.words;
+  first = λ c u h l. elim (cases_eq u i) [
+    | inl same ↦
+        ap (column new c) same ∙ added.here c (let w = so_far.words in omega (arith, w, h))
+        ∙ ap₂ bit_xor (so_far.none c i (omega arith)) (is c h) ∙ xor_zero_l (given c i) ∙ ap (given c) (sym same)
+    | inr another ↦ added.others c u another ∙ so_far.first c u h (omega (arith, l, another))
+  ];
+  none = λ c u h. added.others c u (λ e. omega (arith, e, h)) ∙ so_far.none c u (omega (arith, h));
+}

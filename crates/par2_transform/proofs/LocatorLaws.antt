@@ -69,25 +69,6 @@ weighed_by k sequence all reported weights is count each size fit are = record {
   are = are (slice_index sequence) 0 (λ e low. ap (λ xs. get_or xs e 0) is ∙ each e low ∙ ap (λ m. get_or sequence m 0) (sym (zero-add e)));
 }
 
--- ---- rows
-
-pub no_first : (given : ℕ → ℕ → ℕ) (old new : Grid) → new.levels ≡ old.levels → new.words ≡ old.words → ((c u : ℕ) → column new c u ≡ 0) → HaveFirst 0 given old new
-no_first given old new levels words zero = record { levels = levels; words = words; first = λ c u h l. absurd (omega (arith, l)); none = λ c u h. zero c u }
-
-pub next_first : (given : ℕ → ℕ → ℕ) (i : ℕ) (other : ℕ → ℕ) (old mid new : Grid) → HaveFirst i given old mid → IsAdded mid new i other → ((c : ℕ) → c < old.words → other c ≡ given c i)
-    → HaveFirst (i + 1) given old new
-next_first given i other old mid new so_far added is = record {
-  levels = added.levels ∙ so_far.levels;
-  words = added.words ∙ so_far.words;
-  first = λ c u h l. elim (cases_eq u i) [
-    | inl same ↦
-        ap (column new c) same ∙ added.here c (let w = so_far.words in omega (arith, w, h))
-        ∙ ap₂ bit_xor (so_far.none c i (omega arith)) (is c h) ∙ xor_zero_l (given c i) ∙ ap (given c) (sym same)
-    | inr another ↦ added.others c u another ∙ so_far.first c u h (omega (arith, l, another))
-  ];
-  none = λ c u h. added.others c u (λ e. omega (arith, e, h)) ∙ so_far.none c u (omega (arith, h));
-}
-
 pub one_times : (x : ℕ) → x < 65536 → mul 1 x ≡ x
 one_times x h = product_comm 1 x (omega arith) h ∙ product-one x h
 

@@ -1,5 +1,5 @@
 -- A run of rows, transformed by halves: both halves are transformed before or after a butterfly.
-use Rattle.par2_transform.proofs.Common.{ℕ, suc, ◌+◌, ◌-◌, ◌*◌, ◌^◌, ◌<◌, ◌≤◌, ◌≡◌, sym, ap, ap₂, subst, ◌∙◌, arith, bit_xor, pow-suc, pow-le-pow_right, add-mul, one-mul, cases_lt, inl, inr, xor_comm, xor_lt, xor_zero_l, xor_zero_r, xor_self, xor_assoc, xor_off, mul, pow, GivesElements, field_sum, field_sum_same, zero-product, product-one, product_comm, point, vanishing, member, power_sum, ArePowerSums, IsMerged, from, IsListed, AreListedValues, OneRun, SameValuesOutside}
+use Rattle.par2_transform.proofs.Common.{IsRun, ℕ, suc, ◌+◌, ◌-◌, ◌*◌, ◌^◌, ◌<◌, ◌≤◌, ◌≡◌, sym, ap, ap₂, subst, ◌∙◌, arith, bit_xor, pow-suc, pow-le-pow_right, add-mul, one-mul, cases_lt, inl, inr, xor_comm, xor_lt, xor_zero_l, xor_zero_r, xor_self, xor_assoc, xor_off, mul, pow, GivesElements, field_sum, field_sum_same, zero-product, product-one, product_comm, point, vanishing, member, power_sum, ArePowerSums, IsMerged, from, IsListed, AreListedValues, OneRun, SameValuesOutside}
 unfoldable use Rattle.par2_transform.specs.Combinations.{combined}
 use Rattle.par2_transform.specs.Combinations.{IsSplit, IsHalved, IsCombination}
 use Rattle.par2_transform.proofs.Subspaces.{point-lt}
@@ -18,6 +18,15 @@ halves_below k i q some high low =
     let e : k - (i - 1) ≡ suc (k - i) = omega arith in
     let p : 2 ^ (k - (i - 1)) ≡ 2 ^ (k - i) * 2 = ap (λ n. 2 ^ n) e ∙ pow-suc 2 (k - i) in
     omega (arith, p, low)
+
+pub lower_half : (k i q : ℕ) → 0 < i → IsRun k i q → IsRun k (i - 1) (2 * q)
+lower_half k i q some run = record { few = run.few; level = omega (arith, run.level); run = omega (arith, halves_below k i q some run.level run.run) }
+
+pub upper_half : (k i q : ℕ) → 0 < i → IsRun k i q → IsRun k (i - 1) (2 * q + 1)
+upper_half k i q some run = record { few = run.few; level = omega (arith, run.level); run = halves_below k i q some run.level run.run }
+
+pub run_kept : {k n i q : ℕ} → k ≡ n → IsRun n i q → IsRun k i q
+run_kept {i = i} {q = q} e run = subst (λ m. IsRun m i q) (sym e) run
 
 -- a run that is halved lies within all points
 pub run_in_field : (k i q : ℕ) → k ≤ 16 → 0 < i → i ≤ k → q < 2 ^ (k - i) → q * 2 ^ suc (i - 1) + 2 ^ suc (i - 1) ≤ 65536

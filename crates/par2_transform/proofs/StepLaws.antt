@@ -1,5 +1,5 @@
 -- One column of values, through the loops of a level.
-use Rattle.par2_transform.proofs.Common.{ℕ, suc, ◌+◌, ◌-◌, ◌*◌, ◌%◌, ◌^◌, ◌<◌, ◌≤◌, ◌≡◌, inl, inr, ◌⊎◌, refl, sym, ap, ap₂, ◌∙◌, subst, arith, bit_xor, pow-suc, add_assoc, mul_assoc, add-mul, one-mul, mul-zero, List, length, get_or, set, bit_at, xor_zero_r, xor_assoc, pow-le-pow_right, cases_eq, cases_lt, get_or-set_same, get_or-set_other, pow-add, xor_lt, mul, GivesElements, field_sum, bit_times_xor, field_sum_same, field_sum_none, field_sum_xor, xor_off, within, powers_in, sum_ahead, IsMerged, from, IsOneAdded, SameValuesOutside, OneRun, RunAddedBy, RunAdded, IsButterfly, AheadAdded, IsRaised, IsLowered}
+use Rattle.par2_transform.proofs.Common.{ℕ, suc, ◌+◌, ◌-◌, ◌*◌, ◌%◌, ◌^◌, ◌<◌, ◌≤◌, ◌≡◌, ◌≢◌, inl, inr, ◌⊎◌, AreTwoRuns, IsPair, IsRun, refl, sym, ap, ap₂, ◌∙◌, subst, arith, bit_xor, pow-suc, add_assoc, mul_assoc, add-mul, one-mul, mul-zero, List, length, get_or, set, bit_at, xor_zero_r, xor_assoc, pow-le-pow_right, cases_eq, cases_lt, get_or-set_same, get_or-set_other, pow-add, xor_lt, mul, GivesElements, field_sum, bit_times_xor, field_sum_same, field_sum_none, field_sum_xor, xor_off, within, powers_in, sum_ahead, IsMerged, from, SameValuesOutside, OneRun, RunAddedBy, RunAdded, IsButterfly, AheadAdded, IsRaised, IsLowered}
 use Rattle.std.proofs.Common.{mul-le-mul_right}
 use Rattle.par2_transform.proofs.AddingLaws.{within-in, within-below, within-above, within_joined, within_same}
 use Rattle.par2_transform.proofs.Sums.{field_sum_bit_set, field_sum_bit_unset}
@@ -18,10 +18,6 @@ shifted i h =
 
 pub double_power : (i : ℕ) → 2 ^ suc i ≡ 2 ^ i + 2 ^ i
 double_power i = let double : 2 ^ suc i ≡ 2 ^ i * 2 = pow-suc 2 i in omega arith
-
--- the same rows if the levels are equal
-pub rows_within : {x n m : ℕ} → m ≡ n → x ≤ 2 ^ n → x ≤ 2 ^ m
-rows_within e h = rw e h
 
 -- a half of a run and a lower power, as shifts compute them
 pub shifts : (i j : ℕ) → i < 16 → j < i
@@ -47,6 +43,24 @@ pair_places k i q few level pair =
     let half : 1 * 2 ^ i % 18446744073709551616 ≡ 2 ^ i = shifted i few in
     (half, ap (λ n. q * 2 * n) half ∙ run_starts i q, double_power i, run_fits k (suc i) q level pair)
 
+-- a run of level i + 1 is a pair of runs of level i, as the code computes its start
+pub pair_of_run : (k i q : ℕ) → IsRun k (suc i) q → IsPair k i (q * 2 * (1 * 2 ^ i % 18446744073709551616))
+pair_of_run k i q run =
+    let few : i < 16 = omega (arith, run.few, run.level) in
+    record { few = run.few; level = run.level; fits = omega (arith, pair_places k i q few run.level run.run) }
+
+pub pair_kept : {k n i start : ℕ} → k ≡ n → IsPair n i start → IsPair k i start
+pair_kept {i = i} {start = start} e pair = subst (λ m. IsPair m i start) (sym e) pair
+
+-- the halves of a pair, as a shift computes their size
+pub upper_to_lower : (k i start : ℕ) → IsPair k i start → AreTwoRuns (2 ^ k) (start + 1 * 2 ^ i % 18446744073709551616) start (1 * 2 ^ i % 18446744073709551616)
+upper_to_lower k i start pair =
+    let half : 1 * 2 ^ i % 18446744073709551616 ≡ 2 ^ i = shifted i (omega (arith, pair.few, pair.level)) in
+    record { from = omega (arith, half, double_power i, pair.fits); to = omega (arith, half, double_power i, pair.fits); apart = inr (omega arith) }
+
+pub lower_to_upper : (k i start : ℕ) → IsPair k i start → AreTwoRuns (2 ^ k) start (start + 1 * 2 ^ i % 18446744073709551616) (1 * 2 ^ i % 18446744073709551616)
+lower_to_upper k i start pair = let runs = upper_to_lower k i start pair in record { from = runs.to; to = runs.from; apart = inl (omega arith) }
+
 pub same_outside : (a b : ℕ) (f : ℕ → ℕ) → SameValuesOutside a b f f
 same_outside a b f = record { below = λ u h. refl; above = λ u h. refl }
 
@@ -55,6 +69,11 @@ outside_then a b a1 b1 a2 b2 f g h first second l1 l2 r1 r2 = record {
   below = λ u l. second.below u (omega arith) ∙ first.below u (omega arith);
   above = λ u l. second.above u (omega arith) ∙ first.above u (omega arith);
 }
+
+-- another value is added at one place
+pub record IsOneAdded (to other : ℕ) (old new : ℕ → ℕ) : Type 0 where
+  pub others : (u : ℕ) → u ≢ to → new u ≡ old u
+  pub here : new to ≡ bit_xor (old to) other
 
 pub outside_one : (a b to v : ℕ) (f g : ℕ → ℕ) → IsOneAdded to v f g → a ≤ to → to < b → SameValuesOutside a b f g
 outside_one a b to v f g one low high = record {

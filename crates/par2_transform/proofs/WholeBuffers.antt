@@ -1,5 +1,5 @@
 -- Outputs that are a whole buffer each.
-use Rattle.par2_transform.proofs.Common.{inl, inr, ℕ, ◌+◌, ◌*◌, ◌<◌, ◌≤◌, ◌≡◌, refl, sym, ap, ap₂, subst, ◌∙◌, arith, bit_xor, List, [], ◌∷◌, ◌++◌, length, drop, length-append, cases_lt, get_or_append_left, get_or_at, word, list_at, place_at, output_word, AddsAt, AddsToEach, AreApart, AreWholeBuffers, HaveWords, LieWithin, Place}
+use Rattle.par2_transform.proofs.Common.{Adds, Global, LieIn, Places, Vec, length-lists_of, lists_of, inl, inr, ℕ, ◌+◌, ◌*◌, ◌<◌, ◌≤◌, ◌≡◌, refl, sym, ap, ap₂, subst, ◌∙◌, arith, bit_xor, List, [], ◌∷◌, ◌++◌, length, drop, length-append, cases_lt, get_or_append_left, get_or_at, word, list_at, place_at, output_word, AddsAt, AddsToEach, AreApart, AreWholeBuffers, HaveWords, LieWithin, Place}
 
 pub no_bytes : AreWholeBuffers 0 []
 no_bytes = record { count = refl; each = λ t h. absurd (omega arith) }
@@ -54,3 +54,21 @@ whole_added words other places old new whole have added = record {
   where
     here : (t p : ℕ) → t < length old → (buffers : List (List ℕ)) → output_word places t p buffers ≡ word p (list_at buffers t)
     here t p low buffers = let is = whole.each t low in ap₂ (λ (i a : ℕ). word p (drop a (list_at buffers i))) is.0 is.1
+
+-- the outputs are the whole buffers
+pub record AreWhole (outputs : Places) (buffers : List (Vec ℕ Global)) : Type 0 where
+  pub count : length outputs.places.now ≡ length buffers
+  pub room : LieIn outputs buffers
+  pub each : (other : ℕ → ℕ → ℕ) (new : List (Vec ℕ Global)) → Adds outputs other buffers new → AddsToEach other (lists_of buffers) (lists_of new)
+
+pub are_whole : (words : ℕ) (outputs : Places) (places : List Place) (buffers : List (Vec ℕ Global)) → AreWholeBuffers (length buffers) places → outputs.places.now ≡ places → outputs.words ≡ words
+    → HaveWords words (lists_of buffers) → AreWhole outputs buffers
+are_whole words outputs places buffers whole places_are words_are have =
+    let here : AreWholeBuffers (length buffers) outputs.places.now = subst (λ (ps : List Place). AreWholeBuffers (length buffers) ps) (sym places_are) whole in
+    let all : AreWholeBuffers (length (lists_of buffers)) outputs.places.now = subst (λ (n : ℕ). AreWholeBuffers n outputs.places.now) (sym (length-lists_of buffers)) here in
+    let size : HaveWords outputs.words (lists_of buffers) = subst (λ (n : ℕ). HaveWords n (lists_of buffers)) (sym words_are) have in
+    record {
+      count = here.count;
+      room = whole_within outputs.words outputs.places.now (lists_of buffers) all size;
+      each = λ other new added. whole_added outputs.words other outputs.places.now (lists_of buffers) (lists_of new) all size added;
+    }

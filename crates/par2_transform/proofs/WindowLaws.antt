@@ -1,38 +1,18 @@
 -- From coefficients in rows to the sums that the windows of a class gather.
-use Rattle.par2_transform.proofs.Common.{inl, inr, ℕ, suc, ◌+◌, ◌-◌, ◌*◌, ◌^◌, ◌<◌, ◌≤◌, ◌≡◌, ◌≢◌, sym, ap, ap₂, subst, ◌∙◌, arith, List, length, bit_xor, cases_lt, cases_eq, xor_zero_l, xor_zero_r, mul, pow, zero-product, field_sum_same, field_sum_none, Outputs, Keeps, IsCleared, Gathers, GathersWindow, IsGathered, EachBlock, outputs_at, weight_at, AreCoefficients, AreWindowValues, HaveShape, AreBlocks, words_at, value, AreValues, Grid, column, IsAdded, EachColumn, point, Cut, coefficient_of, window_value, field_sum}
+use Rattle.par2_transform.proofs.Common.{inl, inr, ℕ, suc, ◌+◌, ◌-◌, ◌*◌, ◌^◌, ◌<◌, ◌≤◌, ◌≡◌, ◌≢◌, sym, ap, ap₂, subst, ◌∙◌, arith, List, length, bit_xor, cases_lt, cases_eq, xor_zero_l, xor_zero_r, mul, pow, zero-product, field_sum_same, field_sum_none, Outputs, Keeps, IsCleared, Gathers, GathersWindow, IsGathered, EachBlock, outputs_at, weight_at, HaveFirst, HaveShape, Plan, cut_of, AreBlocks, words_at, value, AreValues, Grid, column, IsAdded, EachColumn, point, Cut, coefficient_of, window_value, field_sum}
 use Rattle.par2_transform.proofs.Sums.{field_sum_join}
 
--- ---- coefficients
-
-pub no_coefficient : (cut : Cut) (slices : List (List ℕ)) (r a from : ℕ) (old new : Grid) → new.levels ≡ old.levels → new.words ≡ old.words
-    → ((c u : ℕ) → column new c u ≡ 0) → AreCoefficients cut slices r a from 0 old new
-no_coefficient cut slices r a from old new levels words zero = record {
-  levels = levels;
-  words = words;
-  first = λ c m h l. absurd (omega arith);
-  none = λ c m h. zero c m;
-}
-
-pub next_coefficient : (cut : Cut) (slices : List (List ℕ)) (r a from i : ℕ) (old mid new : Grid) → AreCoefficients cut slices r a from i old mid
-    → IsAdded mid new i (λ c. coefficient_of cut (words_at slices (from + c)) r (a * cut.window + i)) → AreCoefficients cut slices r a from (i + 1) old new
-next_coefficient cut slices r a from i old mid new so_far added = record {
-  levels = added.levels ∙ so_far.levels;
-  words = added.words ∙ so_far.words;
-  first = λ c m h l. elim (cases_eq m i) [
-    | inl same ↦
-        ap (column new c) same ∙ added.here c (let w = so_far.words in omega (arith, w))
-        ∙ ap (λ x. bit_xor x (coefficient_of cut (words_at slices (from + c)) r (a * cut.window + i))) (so_far.none c i (omega arith))
-        ∙ xor_zero_l (coefficient_of cut (words_at slices (from + c)) r (a * cut.window + i))
-        ∙ ap (λ k. coefficient_of cut (words_at slices (from + c)) r (a * cut.window + k)) (sym same)
-    | inr other ↦ added.others c m other ∙ so_far.first c m h (below m l other)
-  ];
-  none = λ c m h. added.others c m (λ e. omega arith) ∙ so_far.none c m (omega arith);
-}
-  where
-    below : (m : ℕ) → m < i + 1 → m ≢ i → m < i
-    below m l other = elim (cases_lt m i) [ inl low ↦ low | inr high ↦ absurd (other (omega arith)) ]
-
 -- ---- values
+
+-- word c of row m: coefficient m of window a of class r
+abbrev pub coefficients_from : Cut → List (List ℕ) → ℕ → ℕ → ℕ → ℕ → ℕ → ℕ
+coefficients_from cut slices r a from c m = coefficient_of cut (words_at slices (from + c)) r (a * cut.window + m)
+
+-- the rows have the values of window a of class r at the points
+pub record AreWindowValues (cut : Cut) (slices : List (List ℕ)) (r a from : ℕ) (old new : Grid) : Type 0 where
+  pub levels : new.levels ≡ old.levels
+  pub words : new.words ≡ old.words
+  pub values : (c u : ℕ) → c < old.words → u < 2 ^ cut.levels → column new c u ≡ window_value cut (words_at slices (from + c)) r a u
 
 pub field_sum_short : (n m : ℕ) (f : ℕ → ℕ) → n ≤ m → ((i : ℕ) → n ≤ i → f i ≡ 0) → field_sum m f ≡ field_sum n f
 field_sum_short n m f h none =
@@ -41,7 +21,7 @@ field_sum_short n m f h none =
     ∙ ap (bit_xor (field_sum n f)) (field_sum_none (m - n) (λ i. f (n + i)) (λ i l. none (n + i) (omega arith))) ∙ xor_zero_r (field_sum n f)
 
 pub values_of_window : (cut : Cut) (slices : List (List ℕ)) (r a from : ℕ) (old mid new : Grid) → cut.window ≤ 2 ^ cut.levels → mid.levels ≡ cut.levels
-    → AreCoefficients cut slices r a from cut.window old mid → EachColumn (AreValues cut.window mid.levels) mid new → AreWindowValues cut slices r a from old new
+    → HaveFirst cut.window (coefficients_from cut slices r a from) old mid → EachColumn (AreValues cut.window mid.levels) mid new → AreWindowValues cut slices r a from old new
 values_of_window cut slices r a from old mid new fits levels coefficients values = record {
   levels = values.levels ∙ coefficients.levels;
   words = values.words ∙ coefficients.words;
@@ -117,8 +97,8 @@ one_window_more cut slices r from n old before blocks so_far one =
     (λ j h first second. next_gathered cut slices r from n (outputs_at old j) (outputs_at before j) (outputs_at blocks j) first second)
 
 -- the blocks keep their shape
-pub shape_kept : (cut : Cut) (slices : List (List ℕ)) (r from n words : ℕ) (old blocks : List Outputs) → EachBlock (IsGathered cut slices r from n) old blocks → HaveShape cut words old → HaveShape cut words blocks
-shape_kept cut slices r from n words old blocks so_far shape j h =
+pub shape_kept : (plan : Plan) (slices : List (List ℕ)) (r from n : ℕ) (old blocks : List Outputs) → EachBlock (IsGathered (cut_of plan) slices r from n) old blocks → HaveShape plan old → HaveShape plan blocks
+shape_kept plan slices r from n old blocks so_far shape j h =
     let low : j < length old = (let e = so_far.count in omega (arith, e)) in
     let kept = (so_far.done j low).kept in
     record {
@@ -127,5 +107,5 @@ shape_kept cut slices r from n words old blocks so_far shape j h =
       words = kept.words ∙ (shape j low).words;
     }
 
-pub blocks_have_shape : (cut : Cut) (words first size : ℕ) (blocks : List Outputs) → AreBlocks cut words first size blocks → HaveShape cut words blocks
-blocks_have_shape cut words first size blocks are j h = record { windows = (are j h).windows; levels = (are j h).levels; words = (are j h).words }
+pub blocks_have_shape : (plan : Plan) (first size : ℕ) (blocks : List Outputs) → AreBlocks (cut_of plan) plan.columns first size blocks → HaveShape plan blocks
+blocks_have_shape plan first size blocks are j h = record { windows = (are j h).windows; levels = (are j h).levels; words = (are j h).words }

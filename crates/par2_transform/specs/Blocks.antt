@@ -1,14 +1,13 @@
 -- Blocks of outputs: the weighted values of all windows of a class at the points, and the outputs that their power sums
 -- give.
-use Rattle.std.specs.Prelude.{ℕ, ◌≡◌, ◌≢◌, ◌<◌, ◌≤◌, ◌+◌, ◌-◌, ◌*◌, ◌^◌, bit_xor, List, [], length, slice_index, slice_index_or}
+use Rattle.std.specs.Prelude.{ℕ, ◌≡◌, ◌<◌, ◌≤◌, ◌+◌, ◌-◌, ◌*◌, ◌^◌, bit_xor, List, [], length, slice_index, slice_index_or}
 use Rattle.par2_spec.specs.Field.{mul, pow}
 use Rattle.par2_spec.specs.Sums.{field_sum, list_at}
-use Rattle.par2_transform.specs.Adding.{within}
 use Rattle.par2_transform.specs.Chirps.{chirp_inverse, word_at_power}
 use Rattle.par2_transform.specs.Columns.{words_at}
 use Rattle.par2_transform.specs.Grids.{Grid, column}
 use Rattle.par2_transform.specs.Subspaces.{point}
-use Rattle.par2_transform.specs.Transforms.{Cut, HasWeights, coefficient_of, window_value}
+use Rattle.par2_transform.specs.Transforms.{Cut, HasWeights, window_value}
 
 -- the weight of a window at a point
 abbrev pub weight_at : List (List ℕ) → ℕ → ℕ → ℕ
@@ -88,12 +87,6 @@ pub record HasShape (cut : Cut) (columns : ℕ) (block : Outputs) : Type 0 where
 abbrev pub outputs_at : List Outputs → ℕ → Outputs
 outputs_at blocks j = slice_index_or blocks j (record { exponent = 0; windows = 0; weights = []; sums = record { levels = 0; words = 0; bytes = [] } })
 
--- block j changes by the relation, and no other block changes
-pub record OneBecomes (relation : Outputs → Outputs → Type 0) (j : ℕ) (old new : List Outputs) : Type 0 where
-  pub count : length new ≡ length old
-  pub here : relation (outputs_at old j) (outputs_at new j)
-  pub others : (i : ℕ) → i ≢ j → outputs_at new i ≡ outputs_at old i
-
 -- the first n blocks change by the relation, and no other block changes
 pub record BlocksBecome (relation : Outputs → Outputs → Type 0) (n : ℕ) (old new : List Outputs) : Type 0 where
   pub count : length new ≡ length old
@@ -103,10 +96,6 @@ pub record BlocksBecome (relation : Outputs → Outputs → Type 0) (n : ℕ) (o
 -- each block changes by the relation
 abbrev pub EachBlock : (Outputs → Outputs → Type 0) → List Outputs → List Outputs → Type 0
 EachBlock relation old new = BlocksBecome relation (length old) old new
-
--- all blocks have the shape of this cut, and this many columns
-abbrev pub HaveShape : Cut → ℕ → List Outputs → Type 0
-HaveShape cut columns blocks = (j : ℕ) → j < length blocks → HasShape cut columns (outputs_at blocks j)
 
 -- the blocks, of `size` outputs each, cover the outputs from exponent `first` on
 abbrev pub AreBlocks : Cut → ℕ → ℕ → ℕ → List Outputs → Type 0
@@ -124,25 +113,7 @@ abbrev pub from_gathered : Cut → (ℕ → ℕ) → ℕ → ℕ → ℕ → ℕ
 from_gathered cut sums e t r =
     mul (mul (pow 2 ((e + t) * r)) (chirp_inverse cut.classes (e + t))) (field_sum (2 ^ cut.levels) (λ u. mul (sums u) (pow (point u) t)))
 
--- the part of block j, of `size` outputs, in word p of output t, for the columns from `from` up to `to`
-abbrev pub block_part : Cut → ℕ → ℕ → ℕ → ℕ → Outputs → ℕ → ℕ → ℕ → ℕ
-block_part cut size r from to block j t p =
-    within (j * size) (j * size + size) t (within from to p (from_gathered cut (column block.sums (p - from)) block.exponent (t - j * size) r))
-
 -- the part of class r in a word of the recovery slice of exponent e: the sum over the slices of this class alone
 abbrev pub class_sum_at : Cut → (ℕ → ℕ) → ℕ → ℕ → ℕ
 class_sum_at cut words e r =
     field_sum (cut.windows * cut.window) (λ m. mul (pow 2 (e * (cut.classes * m + r))) (word_at_power words (cut.classes * m + r)))
-
--- the rows have the first n coefficients of window a of class r, and 0 after them, in the columns from `from` on
-pub record AreCoefficients (cut : Cut) (slices : List (List ℕ)) (r a from n : ℕ) (old new : Grid) : Type 0 where
-  pub levels : new.levels ≡ old.levels
-  pub words : new.words ≡ old.words
-  pub first : (c m : ℕ) → c < old.words → m < n → column new c m ≡ coefficient_of cut (words_at slices (from + c)) r (a * cut.window + m)
-  pub none : (c m : ℕ) → n ≤ m → column new c m ≡ 0
-
--- the rows have the values of window a of class r at the points
-pub record AreWindowValues (cut : Cut) (slices : List (List ℕ)) (r a from : ℕ) (old new : Grid) : Type 0 where
-  pub levels : new.levels ≡ old.levels
-  pub words : new.words ≡ old.words
-  pub values : (c u : ℕ) → c < old.words → u < 2 ^ cut.levels → column new c u ≡ window_value cut (words_at slices (from + c)) r a u

@@ -1,5 +1,5 @@
 -- Rows of words, one for each point of a subspace: a transform works on all columns of words at once.
-use Rattle.std.specs.Prelude.{ℕ, ◌≡◌, ◌≢◌, ◌<◌, ◌≤◌, ◌+◌, ◌*◌, ◌^◌, bit_xor, List, length}
+use Rattle.std.specs.Prelude.{ℕ, suc, ◌≡◌, ◌≢◌, ◌<◌, ◌≤◌, ◌+◌, ◌-◌, ◌*◌, ◌^◌, ◌⊎◌, bit_xor, List, length}
 use Rattle.par2_spec.specs.Slices.{word}
 use Rattle.par2_transform.specs.Adding.{within}
 
@@ -12,6 +12,24 @@ pub record Grid : Type 0 where
 -- word c of each row, or 0 past the end of a row
 abbrev pub column : Grid → ℕ → ℕ → ℕ
 column grid c u = within 0 grid.words c (word (u * grid.words + c) grid.bytes)
+
+-- run q of level i, which is the 2 ^ i values from value q * 2 ^ i on, is one of 2 ^ levels values, at most 65,536
+pub record IsRun (levels i q : ℕ) : Type 0 where
+  pub few : levels ≤ 16
+  pub level : i ≤ levels
+  pub run : q < 2 ^ (levels - i)
+
+-- two runs of level i, the 2 ^ (i + 1) values from `start` on, are some of 2 ^ levels values, at most 65,536
+pub record IsPair (levels i start : ℕ) : Type 0 where
+  pub few : levels ≤ 16
+  pub level : i < levels
+  pub fits : start + 2 ^ suc i ≤ 2 ^ levels
+
+-- of n values, the `count` values from a on and those from b on don't overlap
+pub record AreTwoRuns (n a b count : ℕ) : Type 0 where
+  pub from : a + count ≤ n
+  pub to : b + count ≤ n
+  pub apart : (a + count ≤ b) ⊎ (b + count ≤ a)
 
 -- there are 2 ^ k rows of n words each
 pub record HasSize (k n : ℕ) (grid : Grid) : Type 0 where

@@ -1,5 +1,5 @@
 -- The steps of the loops of a level, on one column of values.
-use Rattle.std.specs.Prelude.{ℕ, suc, ◌≡◌, ◌≢◌, ◌<◌, ◌≤◌, ◌+◌, ◌-◌, ◌*◌, ◌^◌, bit_xor}
+use Rattle.std.specs.Prelude.{ℕ, suc, ◌≡◌, ◌<◌, ◌≤◌, ◌+◌, ◌-◌, ◌*◌, ◌^◌, bit_xor}
 use Rattle.std.specs.Int.{bit_at}
 use Rattle.par2_spec.specs.Field.{mul, pow}
 use Rattle.par2_spec.specs.Sums.{field_sum, GivesElements}
@@ -7,11 +7,6 @@ use Rattle.par2_transform.specs.Adding.{within}
 use Rattle.par2_transform.specs.Subspaces.{powers_in}
 use Rattle.par2_transform.specs.PowerSums.{sum_ahead}
 use Rattle.par2_transform.specs.Evaluations.{value, from, AreZeroFrom}
-
--- another value is added at one place
-pub record IsOneAdded (to other : ℕ) (old new : ℕ → ℕ) : Type 0 where
-  pub others : (u : ℕ) → u ≢ to → new u ≡ old u
-  pub here : new to ≡ bit_xor (old to) other
 
 -- the values below a and from b on are unchanged
 pub record SameValuesOutside (a b : ℕ) (old new : ℕ → ℕ) : Type 0 where

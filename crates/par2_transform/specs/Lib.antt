@@ -13,3 +13,4 @@ pub mod Adding
 pub mod Blocks
 pub mod Outputs
 pub mod Locators
+pub mod Products

@@ -43,11 +43,6 @@ pub record AreNumbered (points numbers next : List ℕ) : Type 0 where
   pub points_are : (j : ℕ) → j < length points → point (slice_index numbers j) ≡ slice_index points j
   pub listed : (j : ℕ) → j < length points → IsListed (slice_index next) (slice_index numbers j)
 
--- all points and factors are elements
-pub record AreFit (points factors : List ℕ) : Type 0 where
-  pub points_fit : GivesElements (slice_index points)
-  pub factors_fit : GivesElements (slice_index factors)
-
 -- word c of row u has become `given c u` in the first n rows, and 0 in the others
 pub record HaveFirst (n : ℕ) (given : ℕ → ℕ → ℕ) (old new : Grid) : Type 0 where
   pub levels : new.levels ≡ old.levels

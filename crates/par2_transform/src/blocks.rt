@@ -2,14 +2,14 @@
 //! outputs by power sums. For each class, `clear_all` resets the sums of all blocks, `gather_all` is called for each
 //! window, and `add_all` adds the outputs. Row u of the sums belongs to point u, and a column is a word of the outputs.
 
-ghost use Rattle.std.specs.Prelude.{◌≡◌, ℕ, ◌+◌, ◌-◌, ◌*◌, ◌^◌, ◌<◌, ◌≤◌, length, slice_index, IfOk};
+ghost use Rattle.std.specs.Prelude.{◌≡◌, ℕ, ◌+◌, ◌*◌, ◌^◌, ◌<◌, ◌≤◌, length, slice_index, IfOk};
 ghost use Rattle.par2_spec.specs.Field.{mul, pow};
 ghost use Rattle.par2_spec.specs.Sums.{field_sum, list_at, lists_of};
-ghost use Rattle.par2_transform.specs.Adding.{within, AddsAt, LieWithin};
-ghost use Rattle.par2_transform.specs.Blocks.{IsBlock, IsCleared, HasShape, HaveShape, RowsGathered, Gathers, Takes, Keeps, AreWeightRows, EachBlock, OneBecomes, from_gathered, outputs_at, block_part, weight_at};
+ghost use Rattle.par2_transform.specs.Blocks.{IsBlock, IsCleared, HasShape, RowsGathered, Gathers, Takes, Keeps, AreWeightRows, EachBlock, outputs_at, weight_at};
 ghost use Rattle.par2_transform.specs.Chirps.{chirp, chirp_inverse};
-ghost use Rattle.par2_transform.specs.Grids.{column};
-ghost use Rattle.par2_transform.specs.Plans.{cut_of};
+ghost use Rattle.par2_transform.specs.Grids.{HasSize};
+ghost use Rattle.par2_transform.specs.Outputs.{Adds, Fit};
+ghost use Rattle.par2_transform.specs.Plans.{HaveShape, cut_of, part_from};
 ghost use Rattle.par2_transform.specs.Transforms.{HasWeights};
 
 use crate::levels::power_sums;
@@ -99,8 +99,7 @@ fn weights_at(rows: &[Vec<u16>], a: usize) -> &[u16]
 /// locator its sources.
 pub(crate) fn gather_rows(gf: &Gf, weights: &[u16], values: &Rows, sums: &mut Rows)
     requires weights { length weights.now ≡ 2 ^ sums.old.levels }
-    requires levels { values.now.levels ≡ sums.old.levels }
-    requires words { values.now.words ≡ sums.old.words }
+    requires same { HasSize sums.old.levels sums.old.words values.now }
     ensures { RowsGathered (slice_index weights.now) values.now (2 ^ sums.old.levels)
         sums.old sums.new }
 {
@@ -160,17 +159,12 @@ impl Block {
         // The block has the shape of the plan. There is one block of columns at most, and the outputs lie inside the
         // buffers.
         requires shape { HasShape (cut_of class.now.plan) class.now.plan.columns self.old }
-        requires columns { columns.now.to ≤ columns.now.from + class.now.plan.columns }
-        requires room { LieWithin columns.now.outputs.words columns.now.outputs.places.now
-            (lists_of buffers.old) }
+        requires fits { Fit class.now.plan.columns columns.now buffers.old }
         // The part of the class is added to the outputs of this block and to nothing else. Only the sums of the block
         // change.
         ensures kept { Keeps self.old self.new }
-        ensures added { AddsAt columns.now.outputs.places.now columns.now.outputs.words
-            (λ t p. within first (first + class.now.plan.block) t
-            (within columns.now.from columns.now.to p (from_gathered (cut_of class.now.plan)
-            (column self.old.sums (p - columns.now.from)) self.old.exponent (t - first)
-            class.now.number))) (lists_of buffers.old) (lists_of buffers.new) }
+        ensures added { Adds columns.now.outputs (part_from class.now columns.now self.old first)
+            buffers.old buffers.new }
     {
         power_sums(gf, &mut self.sums);
         for t in 0..class
@@ -197,30 +191,13 @@ fn factor_of(gf: &Gf, class: &Class, e: u64) -> u16
     )
 }
 
-// Resets the gathered sums of block j to zero: the step of `clear_all`. `OneBecomes`: no other block changes.
-fn clear_one(blocks: &mut [Block], j: usize)
-    requires { j < length blocks.old }
-    ensures { OneBecomes IsCleared j blocks.old blocks.new }
-{
-    blocks[j].clear();
-}
-
 /// Resets the gathered sums of all blocks to zero, before the windows of a class are gathered.
 pub(crate) fn clear_all(blocks: &mut [Block])
     ensures { EachBlock IsCleared blocks.old blocks.new }
 {
     for j in 0..blocks.len() {
-        clear_one(blocks, j);
+        blocks[j].clear();
     }
-}
-
-// Gathers the values of window a in block j: the step of `gather_all`. No other block changes.
-fn gather_one(gf: &Gf, a: usize, values: &Rows, blocks: &mut [Block], j: usize)
-    requires place { j < length blocks.old }
-    requires takes { Takes a values.now (outputs_at blocks.old j) }
-    ensures { OneBecomes (Gathers a values.now) j blocks.old blocks.new }
-{
-    blocks[j].gather(gf, a, values);
 }
 
 /// Gathers in all blocks the values of window a at the points, each block with its own weights.
@@ -229,35 +206,8 @@ pub(crate) fn gather_all(gf: &Gf, a: usize, values: &Rows, blocks: &mut [Block])
     ensures { EachBlock (Gathers a values.now) blocks.old blocks.new }
 {
     for j in 0..blocks.len() {
-        gather_one(gf, a, values, blocks, j);
+        blocks[j].gather(gf, a, values);
     }
-}
-
-// Turns the sums that block j gathered for a class into outputs, and adds them in these columns: the step of `add_all`.
-fn add_one(
-    gf: &Gf,
-    class: &Class,
-    columns: &Columns,
-    blocks: &mut [Block],
-    j: usize,
-    buffers: &mut [Vec<u8>],
-)
-    // Block j has the shape of the plan. There is one block of columns at most, and the outputs lie inside the buffers.
-    requires place { j < length blocks.old }
-    requires few { length blocks.old * class.now.plan.block ≤ 2 ^ 34 }
-    requires shape { HasShape (cut_of class.now.plan) class.now.plan.columns
-        (outputs_at blocks.old j) }
-    requires columns { columns.now.to ≤ columns.now.from + class.now.plan.columns }
-    requires room { LieWithin columns.now.outputs.words columns.now.outputs.places.now
-        (lists_of buffers.old) }
-    // The part of the class is added to the outputs of block j and to nothing else. Only its sums change.
-    ensures kept { OneBecomes Keeps j blocks.old blocks.new }
-    ensures added { AddsAt columns.now.outputs.places.now columns.now.outputs.words
-        (block_part (cut_of class.now.plan) class.now.plan.block class.now.number
-        columns.now.from columns.now.to (outputs_at blocks.old j) j)
-        (lists_of buffers.old) (lists_of buffers.new) }
-{
-    blocks[j].add_to(gf, class, columns, buffers, j * class.plan.block);
 }
 
 /// Turns the sums that all blocks gathered for a class into outputs, and adds them in these columns.
@@ -271,19 +221,15 @@ pub(crate) fn add_all(
     // All blocks have the shape of the plan. There is one block of columns at most, and the outputs lie inside the
     // buffers.
     requires few { length blocks.old * class.now.plan.block ≤ 2 ^ 34 }
-    requires shape { HaveShape (cut_of class.now.plan) class.now.plan.columns blocks.old }
-    requires columns { columns.now.to ≤ columns.now.from + class.now.plan.columns }
-    requires room { LieWithin columns.now.outputs.words columns.now.outputs.places.now
-        (lists_of buffers.old) }
+    requires shape { HaveShape class.now.plan blocks.old }
+    requires fits { Fit class.now.plan.columns columns.now buffers.old }
     // Each output gets the sum of the parts of all blocks. Only the sums of the blocks change.
     ensures kept { EachBlock Keeps blocks.old blocks.new }
-    ensures added { AddsAt columns.now.outputs.places.now columns.now.outputs.words
-        (λ t p. field_sum (length blocks.old) (λ j.
-        block_part (cut_of class.now.plan) class.now.plan.block class.now.number
-        columns.now.from columns.now.to (outputs_at blocks.old j) j t p))
-        (lists_of buffers.old) (lists_of buffers.new) }
+    ensures added { Adds columns.now.outputs (λ t p. field_sum (length blocks.old)
+        (λ j. part_from class.now columns.now (outputs_at blocks.old j)
+        (j * class.now.plan.block) t p)) buffers.old buffers.new }
 {
     for j in 0..blocks.len() {
-        add_one(gf, class, columns, blocks, j, buffers);
+        blocks[j].add_to(gf, class, columns, buffers, j * class.plan.block);
     }
 }

@@ -1,12 +1,12 @@
 //! Sums of buffers, word by word. `Rows` adds rows by `add_words_within`, `add_products`, `add_products_within` and
-//! `butterfly_within`; `add_to_output` ends in `add_products`.
+//! `butterfly_within`; `Columns::add` ends in `add_products`.
 
-ghost use Rattle.std.specs.Prelude.{◌≡◌, ℕ, ◌+◌, ◌-◌, ◌*◌, ◌^◌, ◌<◌, ◌≤◌, ◌⊎◌, length, slice_index};
+ghost use Rattle.std.specs.Prelude.{◌≡◌, ℕ, ◌+◌, ◌-◌, ◌*◌, ◌^◌, ◌<◌, ◌≤◌, length, slice_index};
 ghost use Rattle.par2_gf16.specs.Products.{AddsWords};
 ghost use Rattle.par2_spec.specs.Field.{mul};
 ghost use Rattle.par2_spec.specs.Slices.{word};
 ghost use Rattle.par2_transform.specs.Adding.{within, AddsBoth, AddsTo};
-ghost use Rattle.par2_transform.specs.Grids.{CopiesWords};
+ghost use Rattle.par2_transform.specs.Grids.{AreTwoRuns, CopiesWords};
 
 use par2_gf16::{Factor, Gf};
 
@@ -94,9 +94,7 @@ pub(crate) fn add_products(
 
 /// Adds the `count` words from word `from` on to those from word `to` on. The two ranges don't overlap.
 pub(crate) fn add_words_within(bytes: &mut [u8], from: usize, to: usize, count: usize)
-    requires from { 2 * (from + count) ≤ length bytes.old }
-    requires to { 2 * (to + count) ≤ length bytes.old }
-    requires apart { (from + count ≤ to) ⊎ (to + count ≤ from) }
+    requires { AreTwoRuns (length bytes.old) (2 * from) (2 * to) (2 * count) }
     ensures { AddsTo (λ p. within to (to + count) p (word (from + (p - to)) bytes.old))
         bytes.old bytes.new }
 {
@@ -118,9 +116,7 @@ pub(crate) fn add_products_within(
     to: usize,
     count: usize,
 )
-    requires from { 2 * (from + count) ≤ length bytes.old }
-    requires to { 2 * (to + count) ≤ length bytes.old }
-    requires apart { (from + count ≤ to) ⊎ (to + count ≤ from) }
+    requires { AreTwoRuns (length bytes.old) (2 * from) (2 * to) (2 * count) }
     ensures { AddsTo (λ p. within to (to + count) p
         (mul factor.now (word (from + (p - to)) bytes.old))) bytes.old bytes.new }
 {

@@ -5,7 +5,7 @@
 ghost use Rattle.std.specs.Prelude.{◌≡◌, ℕ, ◌+◌, ◌-◌, ◌*◌, ◌^◌, ◌<◌, ◌≤◌, length, slice_index, IfOk, IfSome, IsTrue};
 ghost use Rattle.par2_transform.specs.Cosets.{AreListedValues, IsListed, listed_by};
 ghost use Rattle.par2_transform.specs.Evaluations.{AreValues};
-ghost use Rattle.par2_transform.specs.Grids.{EachColumn};
+ghost use Rattle.par2_transform.specs.Grids.{EachColumn, IsRun};
 ghost use Rattle.par2_transform.specs.LevelSteps.{OneRun};
 
 use crate::basis::point;
@@ -63,8 +63,7 @@ fn name_least(next: &mut [u32])
 // Whether a wanted point is in coset `number` of subspace i: a listed one, or any if there is no list.
 fn has_wanted(next: Option<&[u32]>, i: u32, number: u16) -> bool
     requires list { IfSome next (λ list. length list.now ≡ 65536) }
-    requires number { number < 2 ^ (16 - i) }
-    requires few { i ≤ 16 }
+    requires coset { IsRun 16 i number }
     ensures { (u : ℕ) → u < 2 ^ i → IsListed (listed_by next.entry) (number * 2 ^ i + u) → IsTrue result }
 {
     let Some(next) = next else {
@@ -77,10 +76,8 @@ fn has_wanted(next: Option<&[u32]>, i: u32, number: u16) -> bool
 // Replaces run q of level i by its values at the points of coset `number`, or at the listed ones among them.
 fn evaluate_run(gf: &Gf, rows: &mut Rows, next: Option<&[u32]>, i: u32, q: u16, number: u16)
     // Run q of level i lies in the rows, and the coset in the field.
-    requires few { rows.old.levels ≤ 16 }
-    requires level { i ≤ rows.old.levels }
-    requires run { q < 2 ^ (rows.old.levels - i) }
-    requires number { number < 2 ^ (16 - i) }
+    requires run { IsRun rows.old.levels i q }
+    requires coset { IsRun 16 i number }
     // The list, if there is one, has an entry for each point.
     requires list { IfSome next (λ list. length list.now ≡ 65536) }
     // The run gets its values at the listed points. No other run changes.
@@ -105,9 +102,8 @@ pub(crate) fn values_in_coset(
     levels: u32,
     coset: u16,
 )
-    requires few { rows.old.levels ≤ 16 }
-    requires levels { levels ≤ rows.old.levels }
-    requires coset { coset < 2 ^ (16 - levels) }
+    requires levels { (levels ≤ rows.old.levels) × (rows.old.levels ≤ 16) }
+    requires coset { IsRun 16 levels coset }
     requires list { IfSome next (λ list. length list.now ≡ 65536) }
     ensures { EachColumn (AreListedValues (listed_by next.entry) levels coset) rows.old rows.new }
 {

@@ -3,12 +3,12 @@
 //! row `q * 2 ^ i` on, and belongs to a coset of subspace i. The transforms are recursions on runs: one half of a run is
 //! finished before the other one is begun, so that its rows stay in the caches.
 
-ghost use Rattle.std.specs.Prelude.{◌<◌, ◌≤◌, ◌+◌, ◌-◌, ◌*◌, ◌^◌, ◌⊎◌, suc};
+ghost use Rattle.std.specs.Prelude.{◌≤◌, ◌*◌, ◌^◌, suc};
 ghost use Rattle.par2_spec.specs.Field.{mul};
 ghost use Rattle.par2_transform.specs.Subspaces.{point};
 ghost use Rattle.par2_transform.specs.PowerSums.{ArePowerSums, IsMerged};
 ghost use Rattle.par2_transform.specs.Combinations.{IsCombination, IsHalved, IsSplit};
-ghost use Rattle.par2_transform.specs.Grids.{EachColumn};
+ghost use Rattle.par2_transform.specs.Grids.{AreTwoRuns, EachColumn, IsPair, IsRun};
 ghost use Rattle.par2_transform.specs.LevelSteps.{OneRun, RunAddedBy, AheadAdded, IsRaised, IsSpreadAbove, IsSpreadBelow};
 
 use crate::basis::{point, powers_in};
@@ -24,9 +24,7 @@ pub(crate) fn power_sums(gf: &Gf, rows: &mut Rows)
 
 // The transpose of run q of level i, whose rows are weights of the points of coset q.
 fn sum_run(gf: &Gf, rows: &mut Rows, i: u32, q: u16)
-    requires few { rows.old.levels ≤ 16 }
-    requires level { i ≤ rows.old.levels }
-    requires run { q < 2 ^ (rows.old.levels - i) }
+    requires { IsRun rows.old.levels i q }
     ensures { EachColumn (OneRun (q * 2 ^ i) (2 ^ i) (ArePowerSums i q)) rows.old rows.new }
 {
     rows.fit();
@@ -40,9 +38,7 @@ fn sum_run(gf: &Gf, rows: &mut Rows, i: u32, q: u16)
 // Merges runs 2 q and 2 q + 1 of level i into run q of level i + 1: the power sums over two cosets give those over
 // both. `weights::unmerge` inverts it on one column.
 fn merge(gf: &Gf, rows: &mut Rows, i: u32, q: u16)
-    requires few { rows.old.levels ≤ 16 }
-    requires level { i < rows.old.levels }
-    requires pair { q < 2 ^ (rows.old.levels - suc i) }
+    requires { IsRun rows.old.levels (suc i) q }
     ensures { EachColumn (OneRun (q * 2 ^ suc i) (2 ^ suc i) (IsMerged i (point (2 * q))))
         rows.old rows.new }
 {
@@ -56,8 +52,7 @@ fn merge(gf: &Gf, rows: &mut Rows, i: u32, q: u16)
 /// the same polynomial as a combination of products of subspace polynomials (Lin, Chung and Han 2014). Then the
 /// butterflies at the points of any coset divide no more.
 pub(crate) fn to_combinations(rows: &mut Rows, levels: u32, count: usize)
-    requires few { rows.old.levels ≤ 16 }
-    requires levels { levels ≤ rows.old.levels }
+    requires { (levels ≤ rows.old.levels) × (rows.old.levels ≤ 16) }
     ensures { EachColumn (IsCombination count levels) rows.old rows.new }
 {
     combine_run(rows, levels, 0, count);
@@ -65,9 +60,7 @@ pub(crate) fn to_combinations(rows: &mut Rows, levels: u32, count: usize)
 
 // The same of run q of level i alone.
 fn combine_run(rows: &mut Rows, i: u32, q: u16, count: usize)
-    requires few { rows.old.levels ≤ 16 }
-    requires level { i ≤ rows.old.levels }
-    requires run { q < 2 ^ (rows.old.levels - i) }
+    requires { IsRun rows.old.levels i q }
     ensures { EachColumn (OneRun (q * 2 ^ i) (2 ^ i) (IsCombination count i)) rows.old rows.new }
 {
     rows.fit();
@@ -82,9 +75,7 @@ fn combine_run(rows: &mut Rows, i: u32, q: u16, count: usize)
 // Divides run q of level i + 1, whose coefficients from number `count` on are 0, by subspace polynomial i: leaves the
 // remainder in the lower half and the quotient in the upper one.
 fn halve(rows: &mut Rows, i: u32, q: u16, count: usize)
-    requires few { rows.old.levels ≤ 16 }
-    requires level { i < rows.old.levels }
-    requires pair { q < 2 ^ (rows.old.levels - suc i) }
+    requires { IsRun rows.old.levels (suc i) q }
     ensures { EachColumn (OneRun (q * 2 ^ suc i) (2 ^ suc i) (IsHalved count i)) rows.old rows.new }
 {
     rows.fit();
@@ -99,9 +90,7 @@ fn halve(rows: &mut Rows, i: u32, q: u16, count: usize)
 /// Splits run q of level i + 1 of combinations into two of level i that agree with it on one half of the coset each. c is
 /// the value of subspace polynomial i on the first half.
 pub(crate) fn split(gf: &Gf, rows: &mut Rows, i: u32, q: u16, c: u16)
-    requires few { rows.old.levels ≤ 16 }
-    requires level { i < rows.old.levels }
-    requires pair { q < 2 ^ (rows.old.levels - suc i) }
+    requires { IsRun rows.old.levels (suc i) q }
     ensures { EachColumn (OneRun (q * 2 ^ suc i) (2 ^ suc i) (IsSplit i c)) rows.old rows.new }
 {
     rows.fit();
@@ -116,9 +105,7 @@ pub(crate) fn split(gf: &Gf, rows: &mut Rows, i: u32, q: u16, c: u16)
 
 // Adds c times the `count` rows from `from` on to those from `to` on, unless c is 0, as in the first run of each level.
 fn add_scaled(gf: &Gf, rows: &mut Rows, c: u16, from: usize, to: usize, count: usize)
-    requires from { from + count ≤ 2 ^ rows.old.levels }
-    requires to { to + count ≤ 2 ^ rows.old.levels }
-    requires apart { (from + count ≤ to) ⊎ (to + count ≤ from) }
+    requires { AreTwoRuns (2 ^ rows.old.levels) from to count }
     ensures { EachColumn (RunAddedBy (mul c) from to count) rows.old rows.new }
 {
     if c != 0 {
@@ -130,9 +117,7 @@ fn add_scaled(gf: &Gf, rows: &mut Rows, c: u16, from: usize, to: usize, count: u
 // lower power 2 ^ j of the subspace polynomial, to value 2 ^ i + e. The lower half comes first, so that the values read
 // in the upper half are complete.
 fn raise(gf: &Gf, rows: &mut Rows, i: u32, start: usize, c: u16)
-    requires few { rows.old.levels ≤ 16 }
-    requires level { i < rows.old.levels }
-    requires fits { start + 2 ^ suc i ≤ 2 ^ rows.old.levels }
+    requires { IsPair rows.old.levels i start }
     ensures { EachColumn (IsRaised i c start) rows.old rows.new }
 {
     let half = 1usize << i;
@@ -143,9 +128,7 @@ fn raise(gf: &Gf, rows: &mut Rows, i: u32, start: usize, c: u16)
 
 // A step of `raise`: adds to value 2 ^ i + e those of the values e + 2 ^ j that lie in the lower half of the run.
 fn add_lower_ahead(rows: &mut Rows, i: u32, start: usize)
-    requires few { rows.old.levels ≤ 16 }
-    requires level { i < rows.old.levels }
-    requires fits { start + 2 ^ suc i ≤ 2 ^ rows.old.levels }
+    requires { IsPair rows.old.levels i start }
     ensures { EachColumn (AheadAdded i start 0 (2 ^ i) i) rows.old rows.new }
 {
     let powers = powers_in(i);
@@ -159,9 +142,7 @@ fn add_lower_ahead(rows: &mut Rows, i: u32, start: usize)
 
 // A step of `raise`: adds to value 2 ^ i + e those of the values e + 2 ^ j that lie in the upper half of the run.
 fn add_upper_ahead(rows: &mut Rows, i: u32, start: usize)
-    requires few { rows.old.levels ≤ 16 }
-    requires level { i < rows.old.levels }
-    requires fits { start + 2 ^ suc i ≤ 2 ^ rows.old.levels }
+    requires { IsPair rows.old.levels i start }
     ensures { EachColumn (AheadAdded i start (2 ^ i) (2 ^ suc i) i) rows.old rows.new }
 {
     let powers = powers_in(i);
@@ -176,9 +157,7 @@ fn add_upper_ahead(rows: &mut Rows, i: u32, start: usize)
 // A step of `halve`: adds coefficient 2 ^ i + e to coefficient e + 2 ^ j, for each lower power 2 ^ j of the subspace
 // polynomial, if that lies in the upper half.
 fn spread_above(rows: &mut Rows, i: u32, start: usize)
-    requires few { rows.old.levels ≤ 16 }
-    requires level { i < rows.old.levels }
-    requires fits { start + 2 ^ suc i ≤ 2 ^ rows.old.levels }
+    requires { IsPair rows.old.levels i start }
     ensures { EachColumn (IsSpreadAbove i start i) rows.old rows.new }
 {
     let powers = powers_in(i);
@@ -193,9 +172,7 @@ fn spread_above(rows: &mut Rows, i: u32, start: usize)
 // A step of `halve`: adds coefficient 2 ^ i + e to coefficient e + 2 ^ j, as `spread_above`, if it is in the lower half.
 // The upper half, which is the quotient, is complete before.
 fn spread_below(rows: &mut Rows, i: u32, start: usize)
-    requires few { rows.old.levels ≤ 16 }
-    requires level { i < rows.old.levels }
-    requires fits { start + 2 ^ suc i ≤ 2 ^ rows.old.levels }
+    requires { IsPair rows.old.levels i start }
     ensures { EachColumn (IsSpreadBelow i start i) rows.old rows.new }
 {
     let powers = powers_in(i);

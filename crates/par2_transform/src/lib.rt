@@ -26,5 +26,5 @@ mod windows;
 
 pub use locator::Locator;
 pub use numerators::Numerators;
-pub use outputs::{Place, Places, add_to_output};
-pub use recovery::{add_recovery_slices, add_recovery_slices_at, whole_buffers};
+pub use outputs::{Columns, Place, Places};
+pub use recovery::{Transform, whole_buffers};

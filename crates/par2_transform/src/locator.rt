@@ -6,13 +6,13 @@
 
 ghost use Rattle.std.specs.Prelude.{◌≡◌, ◌+◌, ◌-◌, ◌*◌, ◌^◌, ◌<◌, ◌≤◌, length, map, slice_index, IfOk};
 ghost use Rattle.par2_spec.specs.Field.{mul};
-ghost use Rattle.par2_spec.specs.Sums.{lists_of};
-ghost use Rattle.par2_transform.specs.Adding.{within, AddsAt, AddsToEach, HaveWords, LieWithin};
-ghost use Rattle.par2_transform.specs.Columns.{byte_lists, words_at, AreByteLists};
-ghost use Rattle.par2_transform.specs.Grids.{column};
+ghost use Rattle.par2_spec.specs.Sums.{lists_of, GivesElements};
+ghost use Rattle.par2_transform.specs.Adding.{within, AddsToEach, HaveWords};
+ghost use Rattle.par2_transform.specs.Columns.{byte_lists, AreByteLists};
+ghost use Rattle.par2_transform.specs.Grids.{column, HasSize};
 ghost use Rattle.par2_transform.specs.Subspaces.{point_number};
-ghost use Rattle.par2_transform.specs.Outputs.{AddsIn};
-ghost use Rattle.par2_transform.specs.Locators.{AreCombinations, AreFit, AreNumbered, AreValuesOf, HoldNumerators, in_coset, quotient_sum};
+ghost use Rattle.par2_transform.specs.Outputs.{Adds, AddsIn, LieIn};
+ghost use Rattle.par2_transform.specs.Locators.{AreCombinations, AreNumbered, AreValuesOf, HoldNumerators, in_coset};
 
 use crate::basis::point_number;
 use crate::cosets::{list, values_in_coset};
@@ -42,7 +42,8 @@ pub struct Locator<'a> {
     ghost fit: { length numerators.sequence.items ≤ 2 ^ levels },
     ghost whole: { numerators.count ≡ length numerators.sequence.items },
     ghost factors_count: { length factors.items ≡ length points.items },
-    ghost elements: { AreFit points.items factors.items },
+    ghost points_fit: { GivesElements (slice_index points.items) },
+    ghost factors_fit: { GivesElements (slice_index factors.items) },
     ghost numbered: { AreNumbered points.items numbers.items next.items },
 }
 
@@ -54,6 +55,8 @@ fn numbers_of(alloc: Global, points: &[u16]) -> Result<Vec<u16>, AllocError>
 }
 
 impl<'a> Locator<'a> {
+    ghost use Rattle.par2_transform.specs.Products.{Serves, quotient_word};
+
     /// For the polynomial with these coefficients from 1 on (`sequence`), its roots (`points`) and a factor for each.
     /// Computes the numbers of the points and what the numerators need. An error is that memory ran out.
     pub fn new(
@@ -123,22 +126,17 @@ impl<'a> Locator<'a> {
         rows: &Rows,
         buffers: &mut [Vec<u8>],
     )
-        // The coset and the output exist, there is an output for each point, and the rows have the locator's shape.
+        // The coset and the output exist.
         requires coset { coset < 2 ^ (16 - self.now.levels) }
         requires place { j < length columns.now.outputs.places.now }
-        requires count { length columns.now.outputs.places.now ≡ length self.now.points.items }
-        requires rows { rows.now.levels ≡ self.now.numerators.levels }
-        // These columns fit the rows, and the outputs lie inside the buffers.
-        requires columns { columns.now.to ≤ columns.now.from + rows.now.words }
-        requires room { LieWithin columns.now.outputs.words columns.now.outputs.places.now
-            (lists_of buffers.old) }
+        requires serves { Serves self.now columns.now rows.now buffers.old }
         // The scaled value is added to output j if its point is in the coset, and nothing else changes.
-        ensures { AddsAt columns.now.outputs.places.now columns.now.outputs.words
+        ensures { Adds columns.now.outputs
             (λ t p. within j (j + 1) t (in_coset self.now.numbers.items self.now.levels coset j
             (within columns.now.from columns.now.to p (mul (slice_index self.now.factors.items j)
             (column rows.now (p - columns.now.from)
             (slice_index self.now.numbers.items j - coset * 2 ^ self.now.levels))))))
-            (lists_of buffers.old) (lists_of buffers.new) }
+            buffers.old buffers.new }
     {
         let number = word_or_zero(&self.numbers, j) as usize;
         let first = coset << self.levels;
@@ -162,28 +160,21 @@ impl<'a> Locator<'a> {
         scratch: &mut Scratch,
         buffers: &mut [Vec<u8>],
     )
-        // The coset exists, there is an output for each point, and the rows have the locator's shape.
+        // The coset exists.
         requires coset { coset < 2 ^ (16 - self.now.levels) }
-        requires count { length columns.now.outputs.places.now ≡ length self.now.points.items }
-        requires levels { scratch.old.rows.levels ≡ self.now.numerators.levels }
+        requires serves { Serves self.now columns.now scratch.old.rows buffers.old }
         // The rows are the numerators over the sources, as combinations.
         requires bytes { AreByteLists (byte_lists sources.now) }
         requires numerators { HoldNumerators self.now.levels
             self.now.numerators.sequence.items (byte_lists sources.now) columns.now.from
             scratch.old.rows }
-        // These columns fit the rows, and the outputs lie inside the buffers.
-        requires columns { columns.now.to ≤ columns.now.from + scratch.old.rows.words }
-        requires room { LieWithin columns.now.outputs.words columns.now.outputs.places.now
-            (lists_of buffers.old) }
         // The combinations stay for the next coset.
         ensures kept { scratch.new.rows ≡ scratch.old.rows }
         // Each output whose point is in the coset gets its sum. Nothing else changes.
-        ensures added { AddsAt columns.now.outputs.places.now columns.now.outputs.words (λ t p.
+        ensures added { Adds columns.now.outputs (λ t p.
             in_coset self.now.numbers.items self.now.levels coset t
-            (within columns.now.from columns.now.to p (quotient_sum
-            self.now.numerators.sequence.items self.now.points.items self.now.factors.items
-            (words_at (byte_lists sources.now) p) t)))
-            (lists_of buffers.old) (lists_of buffers.new) }
+            (within columns.now.from columns.now.to p (quotient_word self.now sources.now t p)))
+            buffers.old buffers.new }
     {
         self.evaluate(coset, scratch);
         for j in 0..columns.outputs.len() {
@@ -199,22 +190,13 @@ impl<'a> Locator<'a> {
         scratch: &mut Scratch,
         buffers: &mut [Vec<u8>],
     )
-        // There is a source for each coefficient and an output for each point, and the rows have the locator's shape.
+        // There is a source for each coefficient.
         requires sources { length sources.now ≡ length self.now.numerators.sequence.items }
-        requires count { length columns.now.outputs.places.now ≡ length self.now.points.items }
-        requires levels { scratch.old.rows.levels ≡ self.now.numerators.levels }
-        // These columns fit the rows, and the outputs lie inside the buffers.
-        requires columns { columns.now.to ≤ columns.now.from + scratch.old.rows.words }
-        requires room { LieWithin columns.now.outputs.words columns.now.outputs.places.now
-            (lists_of buffers.old) }
+        requires serves { Serves self.now columns.now scratch.old.rows buffers.old }
         // The rows keep their shape, so that the next columns can use them.
-        ensures levels { scratch.new.rows.levels ≡ scratch.old.rows.levels }
-        ensures words { scratch.new.rows.words ≡ scratch.old.rows.words }
+        ensures size { HasSize scratch.old.rows.levels scratch.old.rows.words scratch.new.rows }
         // Each output gets its sum in these columns. Nothing else changes.
-        ensures added { AddsIn columns.now (λ t p. quotient_sum
-            self.now.numerators.sequence.items self.now.points.items self.now.factors.items
-            (words_at (byte_lists sources.now) p) t)
-            (lists_of buffers.old) (lists_of buffers.new) }
+        ensures added { AddsIn columns.now (quotient_word self.now sources.now) buffers.old buffers.new }
     {
         self.numerators.sum(sources, columns.from, scratch);
         self.combine(scratch);
@@ -234,11 +216,9 @@ impl<'a> Locator<'a> {
     ) -> Result<(), AllocError>
         requires sources { length sources.now ≡ length self.now.numerators.sequence.items }
         requires count { length outputs.now.places.now ≡ length self.now.points.items }
-        requires room { LieWithin outputs.now.words outputs.now.places.now (lists_of buffers.old) }
-        ensures { IfOk result (λ _. AddsAt outputs.now.places.now outputs.now.words (λ t p.
-            quotient_sum self.now.numerators.sequence.items self.now.points.items self.now.factors.items
-            (words_at (byte_lists sources.now) p) t)
-            (lists_of buffers.old) (lists_of buffers.new)) }
+        requires room { LieIn outputs.now buffers.old }
+        ensures { IfOk result (λ _. Adds outputs.now (quotient_word self.now sources.now)
+            buffers.old buffers.new) }
     {
         let width = columns_for(2 << self.numerators.levels, outputs.words, room);
         let rows = Rows::new(alloc, self.numerators.levels, width)?;
@@ -265,8 +245,7 @@ impl<'a> Locator<'a> {
         requires sources { length sources.now ≡ length self.now.numerators.sequence.items }
         requires count { length buffers.old ≡ length self.now.points.items }
         requires size { HaveWords words (lists_of buffers.old) }
-        ensures { IfOk result (λ _. AddsToEach (λ t p. quotient_sum self.now.numerators.sequence.items
-            self.now.points.items self.now.factors.items (words_at (byte_lists sources.now) p) t)
+        ensures { IfOk result (λ _. AddsToEach (quotient_word self.now sources.now)
             (lists_of buffers.old) (lists_of buffers.new)) }
     {
         let places = whole_buffers(alloc, buffers.len())?;

@@ -5,10 +5,11 @@
 
 ghost use Rattle.std.specs.Prelude.{◌≡◌, ℕ, ◌+◌, ◌^◌, ◌<◌, ◌≤◌, length, slice_index, IfOk};
 ghost use Rattle.par2_spec.specs.Sums.{list_at, lists_of, GivesElements};
-ghost use Rattle.par2_transform.specs.Adding.{AddsAt, AddsToEach, HaveWords, LieWithin};
+ghost use Rattle.par2_transform.specs.Adding.{AddsToEach, HaveWords};
 ghost use Rattle.par2_transform.specs.Columns.{byte_lists, words_at, AreByteLists};
-ghost use Rattle.par2_transform.specs.Locators.{AreNumerators, HaveFirst, IsWeighed, numerator};
-ghost use Rattle.par2_transform.specs.Outputs.{AddsIn};
+ghost use Rattle.par2_transform.specs.Locators.{AreNumerators, HaveFirst, IsWeighed};
+ghost use Rattle.par2_transform.specs.Outputs.{Adds, AddsIn, Fit, LieIn};
+ghost use Rattle.par2_transform.specs.Grids.{HasSize};
 
 use crate::blocks::gather_rows;
 use crate::cosets::values_at_points;
@@ -121,6 +122,8 @@ fn fill(gf: &Gf, sources: &[&[u8]], from: usize, rows: &mut Rows)
 }
 
 impl<'a> Numerators<'a> {
+    ghost use Rattle.par2_transform.specs.Products.{numerator_word};
+
     /// For this sequence and `count` sums. Computes the weights of the points. An error is that memory ran out.
     pub fn new(
         alloc: Global,
@@ -175,16 +178,11 @@ impl<'a> Numerators<'a> {
         requires count { length columns.now.outputs.places.now ≤ self.now.count }
         requires levels { scratch.old.rows.levels ≡ self.now.levels }
         // These columns fit the rows, and the outputs lie inside the buffers.
-        requires columns { columns.now.to ≤ columns.now.from + scratch.old.rows.words }
-        requires room { LieWithin columns.now.outputs.words columns.now.outputs.places.now
-            (lists_of buffers.old) }
+        requires fits { Fit scratch.old.rows.words columns.now buffers.old }
         // The rows keep their shape, so that the next columns can use them.
-        ensures levels { scratch.new.rows.levels ≡ scratch.old.rows.levels }
-        ensures words { scratch.new.rows.words ≡ scratch.old.rows.words }
+        ensures size { HasSize scratch.old.rows.levels scratch.old.rows.words scratch.new.rows }
         // Each output gets its sum in these columns. Nothing else changes.
-        ensures added { AddsIn columns.now
-            (λ t p. numerator self.now.sequence.items (words_at (byte_lists sources.now) p) t)
-            (lists_of buffers.old) (lists_of buffers.new) }
+        ensures added { AddsIn columns.now (numerator_word self.now sources.now) buffers.old buffers.new }
     {
         self.sum(sources, columns.from, scratch);
         for t in 0..columns.outputs.len() {
@@ -203,10 +201,9 @@ impl<'a> Numerators<'a> {
     ) -> Result<(), AllocError>
         requires sources { length sources.now ≡ length self.now.sequence.items }
         requires count { length outputs.now.places.now ≤ self.now.count }
-        requires room { LieWithin outputs.now.words outputs.now.places.now (lists_of buffers.old) }
-        ensures { IfOk result (λ _. AddsAt outputs.now.places.now outputs.now.words (λ t p.
-            numerator self.now.sequence.items (words_at (byte_lists sources.now) p) t)
-            (lists_of buffers.old) (lists_of buffers.new)) }
+        requires room { LieIn outputs.now buffers.old }
+        ensures { IfOk result (λ _. Adds outputs.now (numerator_word self.now sources.now)
+            buffers.old buffers.new) }
     {
         let width = columns_for(2 << self.levels, outputs.words, room);
         let rows = Rows::new(alloc, self.levels, width)?;
@@ -232,8 +229,7 @@ impl<'a> Numerators<'a> {
         requires sources { length sources.now ≡ length self.now.sequence.items }
         requires count { length buffers.old ≤ self.now.count }
         requires size { HaveWords words (lists_of buffers.old) }
-        ensures { IfOk result (λ _. AddsToEach (λ t p. numerator self.now.sequence.items
-            (words_at (byte_lists sources.now) p) t)
+        ensures { IfOk result (λ _. AddsToEach (numerator_word self.now sources.now)
             (lists_of buffers.old) (lists_of buffers.new)) }
     {
         let places = whole_buffers(alloc, buffers.len())?;

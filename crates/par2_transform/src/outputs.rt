@@ -1,10 +1,8 @@
 //! Outputs at their places inside buffers. A buffer may hold several outputs, with other bytes between them.
 
 ghost use Rattle.std.specs.Prelude.{◌≡◌, ◌+◌, ◌-◌, ◌*◌, ◌<◌, ◌≤◌, length, min, take, drop};
-ghost use Rattle.par2_spec.specs.Field.{mul};
-ghost use Rattle.par2_spec.specs.Slices.{word};
 ghost use Rattle.par2_spec.specs.Sums.{OneChanged, list_at, lists_of};
-ghost use Rattle.par2_transform.specs.Adding.{within, place_at, AddsAt, AddsToPart, AreApart, LieWithin};
+ghost use Rattle.par2_transform.specs.Adding.{within, place_at, AddsToPart, AreApart};
 
 use crate::buffers::add_products;
 use par2_gf16::{Factor, Gf};
@@ -73,10 +71,10 @@ impl<'a> Places<'a> {
 
 /// Words `from` up to `to` of each output.
 #[derive(Clone, Copy)]
-pub(crate) struct Columns<'a> {
-    pub(crate) outputs: Places<'a>,
-    pub(crate) from: usize,
-    pub(crate) to: usize,
+pub struct Columns<'a> {
+    pub outputs: Places<'a>,
+    pub from: usize,
+    pub to: usize,
     ghost order: { from ≤ to },
     ghost inside: { to ≤ outputs.words },
 }
@@ -90,88 +88,54 @@ fn place_of(places: &[Place], t: usize) -> Place
     places[t]
 }
 
-// Adds the factor times word k of the row to column `from + k`, for all of the columns, of the output that begins at
-// byte `at`.
-fn add_within(gf: &Gf, factor: &Factor, row: &[u8], bytes: &mut [u8], at: usize, columns: &Columns)
-    requires row { 2 * columns.now.to ≤ 2 * columns.now.from + length row.now }
-    requires room { at + 2 * columns.now.outputs.words ≤ length bytes.old }
-    ensures { AddsToPart at columns.now.outputs.words (λ p. within columns.now.from columns.now.to p
-        (mul factor.now (word (p - columns.now.from) row.now))) bytes.old bytes.new }
-{
-    let output = &mut bytes[at..at + 2 * columns.outputs.words];
-    add_products(gf, factor, row, output, columns.from, columns.to);
-}
-
-// Adds to the output at this place, as `add_within` does.
-fn add_to_bytes(
-    gf: &Gf,
-    factor: &Factor,
-    row: &[u8],
-    buffers: &mut [Vec<u8>],
-    place: Place,
-    columns: &Columns,
-)
-    requires place { place.buffer < length buffers.old }
-    requires row { 2 * columns.now.to ≤ 2 * columns.now.from + length row.now }
-    requires room { place.at + 2 * columns.now.outputs.words
-        ≤ length (list_at (lists_of buffers.old) place.buffer) }
-    // The products are added to these words, and nothing else changes in any buffer.
-    ensures changed { OneChanged (lists_of buffers.old) (lists_of buffers.new) place.buffer }
-    ensures added { AddsToPart place.at columns.now.outputs.words
-        (λ p. within columns.now.from columns.now.to p
-        (mul factor.now (word (p - columns.now.from) row.now)))
-        (list_at (lists_of buffers.old) place.buffer) (list_at (lists_of buffers.new) place.buffer) }
-{
-    let bytes = buffers[place.buffer].as_mut_slice();
-    add_within(gf, factor, row, bytes, place.at, columns);
-}
-
 impl<'a> Columns<'a> {
+    ghost use Rattle.par2_transform.specs.Outputs.{product_in, Adds, LieIn};
+
+    // Adds the factor times word k of the row to column `from + k`, for all of the columns, of the output that begins at
+    // byte `at`.
+    fn add_within(&self, gf: &Gf, factor: &Factor, row: &[u8], bytes: &mut [u8], at: usize)
+        requires row { 2 * self.now.to ≤ 2 * self.now.from + length row.now }
+        requires room { at + 2 * self.now.outputs.words ≤ length bytes.old }
+        ensures { AddsToPart at self.now.outputs.words (product_in self.now factor.now row.now)
+            bytes.old bytes.new }
+    {
+        let output = &mut bytes[at..at + 2 * self.outputs.words];
+        add_products(gf, factor, row, output, self.from, self.to);
+    }
+
+    // Adds to the output at this place, as `add_within` does. `OneChanged`: no other buffer changes.
+    fn add_to_bytes(
+        &self,
+        gf: &Gf,
+        factor: &Factor,
+        row: &[u8],
+        buffers: &mut [Vec<u8>],
+        place: Place,
+    )
+        requires place { place.buffer < length buffers.old }
+        requires row { 2 * self.now.to ≤ 2 * self.now.from + length row.now }
+        requires room { place.at + 2 * self.now.outputs.words
+            ≤ length (list_at (lists_of buffers.old) place.buffer) }
+        ensures changed { OneChanged (lists_of buffers.old) (lists_of buffers.new) place.buffer }
+        ensures added { AddsToPart place.at self.now.outputs.words
+            (product_in self.now factor.now row.now) (list_at (lists_of buffers.old) place.buffer)
+            (list_at (lists_of buffers.new) place.buffer) }
+    {
+        let bytes = buffers[place.buffer].as_mut_slice();
+        self.add_within(gf, factor, row, bytes, place.at);
+    }
+
     /// Adds (exclusive or) c times word k of the row to column `from + k` of output `t`, for all of the columns.
     /// `within t (t + 1)`: no other output changes.
-    pub(crate) fn add(&self, gf: &Gf, c: u16, row: &[u8], buffers: &mut [Vec<u8>], t: usize)
+    pub fn add(&self, gf: &Gf, c: u16, row: &[u8], buffers: &mut [Vec<u8>], t: usize)
         requires place { t < length self.now.outputs.places.now }
         requires row { 2 * self.now.to ≤ 2 * self.now.from + length row.now }
-        requires room { LieWithin self.now.outputs.words self.now.outputs.places.now
-            (lists_of buffers.old) }
-        ensures { AddsAt self.now.outputs.places.now self.now.outputs.words
-            (λ s p. within t (t + 1) s
-            (within self.now.from self.now.to p (mul c (word (p - self.now.from) row.now))))
-            (lists_of buffers.old) (lists_of buffers.new) }
+        requires room { LieIn self.now.outputs buffers.old }
+        ensures { Adds self.now.outputs (λ s p. within t (t + 1) s (product_in self.now c row.now p))
+            buffers.old buffers.new }
     {
         let place = place_of(self.outputs.places, t);
         let factor = Factor::new(c);
-        add_to_bytes(gf, &factor, row, buffers, place, self);
+        self.add_to_bytes(gf, &factor, row, buffers, place);
     }
-}
-
-/// Adds (exclusive or) c times word k of the row to word `from + k` of output `t`, for the words below word `to`.
-/// `par2_solve` adds its sums of products with it. `within t (t + 1)`: no other output changes.
-pub fn add_to_output(
-    gf: &Gf,
-    c: u16,
-    row: &[u8],
-    buffers: &mut [Vec<u8>],
-    outputs: &Places,
-    t: usize,
-    from: usize,
-    to: usize,
-)
-    // Words `from` up to `to` lie inside output `t`, and all outputs inside the buffers.
-    requires place { t < length outputs.now.places.now }
-    requires order { from ≤ to }
-    requires inside { to ≤ outputs.now.words }
-    requires row { 2 * to ≤ 2 * from + length row.now }
-    requires room { LieWithin outputs.now.words outputs.now.places.now (lists_of buffers.old) }
-    // The products are added to these words, and nothing else changes in any buffer.
-    ensures { AddsAt outputs.now.places.now outputs.now.words (λ s p. within t (t + 1) s
-        (within from to p (mul c (word (p - from) row.now))))
-        (lists_of buffers.old) (lists_of buffers.new) }
-{
-    let columns = Columns {
-        outputs: *outputs,
-        from,
-        to,
-    };
-    columns.add(gf, c, row, buffers, t);
 }

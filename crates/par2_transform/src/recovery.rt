@@ -3,9 +3,10 @@
 
 ghost use Rattle.std.specs.Prelude.{◌+◌, ◌*◌, ◌^◌, ◌≤◌, length, IfOk};
 ghost use Rattle.par2_spec.specs.Sums.{lists_of};
-ghost use Rattle.par2_transform.specs.Adding.{AddsAt, AddsToEach, AreWholeBuffers, HaveWords, LieWithin};
+ghost use Rattle.par2_transform.specs.Adding.{AddsToEach, AreWholeBuffers, HaveWords};
 ghost use Rattle.par2_transform.specs.Blocks.{CoverOutputs};
 ghost use Rattle.par2_transform.specs.Columns.{byte_lists, recovered};
+ghost use Rattle.par2_transform.specs.Outputs.{AddsSlices, LieIn};
 ghost use Rattle.par2_transform.specs.Plans.{cut_of};
 
 use crate::blocks::Block;
@@ -37,8 +38,7 @@ fn blocks_of(
 }
 
 impl<'a> Windows<'a> {
-    // Adds to output t the recovery slice of exponent `self.first + t`, some columns at a time. `recovered` is a word
-    // of a recovery slice.
+    // Adds to output t the recovery slice of exponent `self.first + t`, some columns at a time.
     fn add_words(
         &self,
         alloc: Global,
@@ -46,10 +46,9 @@ impl<'a> Windows<'a> {
         outputs: &Places,
     ) -> Result<(), AllocError>
         requires exponents { self.now.first + length outputs.now.places.now ≤ 2 ^ 32 }
-        requires room { LieWithin outputs.now.words outputs.now.places.now (lists_of buffers.old) }
-        ensures { IfOk result (λ _. AddsAt outputs.now.places.now outputs.now.words
-            (λ t p. recovered self.now.slices (self.now.first + t) p)
-            (lists_of buffers.old) (lists_of buffers.new)) }
+        requires room { LieIn outputs.now buffers.old }
+        ensures { IfOk result (λ _.
+            AddsSlices self.now.slices self.now.first outputs.now buffers.old buffers.new) }
     {
         let plan = self.plan;
         let mut rows = Rows::new(alloc, plan.levels, plan.columns)?;
@@ -60,58 +59,6 @@ impl<'a> Windows<'a> {
         }
         Ok(())
     }
-}
-
-// Adds to output t the recovery slice of exponent `first + t`, for all outputs in one transform.
-fn add_group(
-    alloc: Global,
-    gf: &Gf,
-    slices: &[&[u8]],
-    first: u32,
-    buffers: &mut [Vec<u8>],
-    outputs: &Places,
-    room: usize,
-) -> Result<(), AllocError>
-    requires slices { length slices.now ≤ 32768 }
-    requires exponents { first + length outputs.now.places.now ≤ 2 ^ 32 }
-    requires room { LieWithin outputs.now.words outputs.now.places.now (lists_of buffers.old) }
-    ensures { IfOk result (λ _. AddsAt outputs.now.places.now outputs.now.words
-        (λ t p. recovered (byte_lists slices.now) (first + t) p)
-        (lists_of buffers.old) (lists_of buffers.new)) }
-{
-    let windows = Windows::new(alloc, gf, slices, first, outputs, room)?;
-    windows.add_words(alloc, buffers, outputs)
-}
-
-/// Adds to output t the recovery slice of exponent `first + t` over these slices. Shorter slices are padded with zeros,
-/// so an absent slice is an empty one. Takes about `room` bytes of memory beside the buffers, but at least about 100
-/// KiB.
-pub fn add_recovery_slices_at(
-    alloc: Global,
-    gf: &Gf,
-    slices: &[&[u8]],
-    first: u32,
-    buffers: &mut [Vec<u8>],
-    outputs: &Places,
-    room: usize,
-) -> Result<(), AllocError>
-    requires slices { length slices.now ≤ 32768 }
-    requires exponents { first + length outputs.now.places.now ≤ 2 ^ 32 }
-    requires room { LieWithin outputs.now.words outputs.now.places.now (lists_of buffers.old) }
-    ensures { IfOk result (λ _. AddsAt outputs.now.places.now outputs.now.words
-        (λ t p. recovered (byte_lists slices.now) (first + t) p)
-        (lists_of buffers.old) (lists_of buffers.new)) }
-{
-    let at_once = outputs_at_once(room);
-    let count = outputs.len();
-    for k in 0..count.div_ceil(at_once) {
-        let from = k * at_once;
-        let to = from + at_once.min(count - from);
-        let group = outputs.part(from, to);
-        let first = first + from as u32;
-        add_group(alloc, gf, slices, first, buffers, &group, room)?;
-    }
-    Ok(())
 }
 
 /// The places of `count` outputs that are a whole buffer each: output t is buffer t.
@@ -125,24 +72,76 @@ pub fn whole_buffers(alloc: Global, count: usize) -> Result<Vec<Place>, AllocErr
     Ok(places)
 }
 
-/// Adds to buffer t, which has `words` words, the recovery slice of exponent `first + t`, as [`add_recovery_slices_at`]
-/// does to outputs.
-pub fn add_recovery_slices(
-    alloc: Global,
-    gf: &Gf,
-    slices: &[&[u8]],
-    words: usize,
-    first: u32,
-    buffers: &mut [Vec<u8>],
-    room: usize,
-) -> Result<(), AllocError>
-    requires slices { length slices.now ≤ 32768 }
-    requires exponents { first + length buffers.old ≤ 2 ^ 32 }
-    requires size { HaveWords words (lists_of buffers.old) }
-    ensures { IfOk result (λ _. AddsToEach (λ t p. recovered (byte_lists slices.now) (first + t) p)
-        (lists_of buffers.old) (lists_of buffers.new)) }
-{
-    let places = whole_buffers(alloc, buffers.len())?;
-    let outputs = Places::new(&places, words);
-    add_recovery_slices_at(alloc, gf, slices, first, buffers, &outputs, room)
+/// Computes recovery slices of these slices in about `room` bytes of memory beside the buffers, but at least about 100
+/// KiB. Shorter slices are padded with zeros, so an absent slice is an empty one.
+#[derive(Clone, Copy)]
+pub struct Transform<'a> {
+    pub gf: &'a Gf,
+    pub slices: &'a [&'a [u8]],
+    pub room: usize,
+    ghost few: { length slices.now ≤ 32768 },
+}
+
+impl<'a> Transform<'a> {
+    // Adds to output t the recovery slice of exponent `first + t`, for all outputs in one transform.
+    fn add_group(
+        &self,
+        alloc: Global,
+        first: u32,
+        buffers: &mut [Vec<u8>],
+        outputs: &Places,
+    ) -> Result<(), AllocError>
+        requires exponents { first + length outputs.now.places.now ≤ 2 ^ 32 }
+        requires room { LieIn outputs.now buffers.old }
+        ensures { IfOk result (λ _.
+            AddsSlices (byte_lists self.now.slices.now) first outputs.now buffers.old buffers.new) }
+    {
+        let Transform { gf, slices, room } = *self;
+        let windows = Windows::new(alloc, gf, slices, first, outputs, room)?;
+        windows.add_words(alloc, buffers, outputs)
+    }
+
+    /// Adds to output t the recovery slice of exponent `first + t`.
+    pub fn add_recovery_slices_at(
+        &self,
+        alloc: Global,
+        first: u32,
+        buffers: &mut [Vec<u8>],
+        outputs: &Places,
+    ) -> Result<(), AllocError>
+        requires exponents { first + length outputs.now.places.now ≤ 2 ^ 32 }
+        requires room { LieIn outputs.now buffers.old }
+        ensures { IfOk result (λ _.
+            AddsSlices (byte_lists self.now.slices.now) first outputs.now buffers.old buffers.new) }
+    {
+        let at_once = outputs_at_once(self.room);
+        let count = outputs.len();
+        for k in 0..count.div_ceil(at_once) {
+            let from = k * at_once;
+            let to = from + at_once.min(count - from);
+            let group = outputs.part(from, to);
+            let first = first + from as u32;
+            self.add_group(alloc, first, buffers, &group)?;
+        }
+        Ok(())
+    }
+
+    /// Adds to buffer t, which has `words` words, the recovery slice of exponent `first + t`.
+    pub fn add_recovery_slices(
+        &self,
+        alloc: Global,
+        words: usize,
+        first: u32,
+        buffers: &mut [Vec<u8>],
+    ) -> Result<(), AllocError>
+        requires exponents { first + length buffers.old ≤ 2 ^ 32 }
+        requires size { HaveWords words (lists_of buffers.old) }
+        ensures { IfOk result (λ _. AddsToEach
+            (λ t p. recovered (byte_lists self.now.slices.now) (first + t) p)
+            (lists_of buffers.old) (lists_of buffers.new)) }
+    {
+        let places = whole_buffers(alloc, buffers.len())?;
+        let outputs = Places::new(&places, words);
+        self.add_recovery_slices_at(alloc, first, buffers, &outputs)
+    }
 }

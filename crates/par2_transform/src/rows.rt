@@ -1,11 +1,11 @@
 //! The rows of words that a transform works on, kept as bytes. Row u has the values of point u (or coefficient u), and
 //! each column of words is transformed by itself.
 
-ghost use Rattle.std.specs.Prelude.{◌≡◌, ℕ, ◌+◌, ◌*◌, ◌^◌, ◌<◌, ◌≤◌, ◌⊎◌, length, IfOk};
+ghost use Rattle.std.specs.Prelude.{◌≡◌, ℕ, ◌+◌, ◌*◌, ◌^◌, ◌<◌, ◌≤◌, length, IfOk};
 ghost use Rattle.par2_spec.specs.Field.{mul};
 ghost use Rattle.par2_spec.specs.Slices.{word};
 ghost use Rattle.par2_spec.specs.Sums.{GivesElements};
-ghost use Rattle.par2_transform.specs.Grids.{column, AreCopied, EachColumn, IsAdded};
+ghost use Rattle.par2_transform.specs.Grids.{column, AreCopied, AreTwoRuns, EachColumn, HasSize, IsAdded};
 ghost use Rattle.par2_transform.specs.LevelSteps.{RunAddedBy, RunAdded, IsButterfly};
 
 use crate::buffers::{
@@ -99,8 +99,7 @@ impl Rows {
     /// Copies the first `count` of the other rows.
     pub(crate) fn copy_from(&mut self, other: &Rows, count: usize)
         requires count { count ≤ 2 ^ self.old.levels }
-        requires levels { other.now.levels ≡ self.old.levels }
-        requires words { other.now.words ≡ self.old.words }
+        requires same { HasSize self.old.levels self.old.words other.now }
         ensures { AreCopied count other.now self.old self.new }
     {
         let count = self.place(count);
@@ -158,9 +157,7 @@ impl Rows {
         to: usize,
         count: usize,
     )
-        requires from { from + count ≤ 2 ^ self.old.levels }
-        requires to { to + count ≤ 2 ^ self.old.levels }
-        requires apart { (from + count ≤ to) ⊎ (to + count ≤ from) }
+        requires { AreTwoRuns (2 ^ self.old.levels) from to count }
         ensures { EachColumn (RunAddedBy (mul factor.now) from to count) self.old self.new }
     {
         let (from, to, count) = (self.place(from), self.place(to), self.place(count));
@@ -169,9 +166,7 @@ impl Rows {
 
     /// Adds the `count` rows from row `from` on to those from row `to` on. They don't overlap.
     pub(crate) fn add_rows(&mut self, from: usize, to: usize, count: usize)
-        requires from { from + count ≤ 2 ^ self.old.levels }
-        requires to { to + count ≤ 2 ^ self.old.levels }
-        requires apart { (from + count ≤ to) ⊎ (to + count ≤ from) }
+        requires { AreTwoRuns (2 ^ self.old.levels) from to count }
         ensures { EachColumn (RunAdded from to count) self.old self.new }
     {
         let (from, to, count) = (self.place(from), self.place(to), self.place(count));

@@ -69,7 +69,6 @@ fn unmerge(gf: &Gf, words: &mut [u16], i: u32, q: u16)
 // Adds the `count` values from `from` on to those from `to` on.
 fn add_run(words: &mut [u16], from: usize, to: usize, count: usize)
     requires from { from + count ≤ length words.old }
-    requires to { to + count ≤ length words.old }
     requires apart { to + count ≤ from }
     ensures { RunAdded from to count (slice_index words.old) (slice_index words.new) }
 {

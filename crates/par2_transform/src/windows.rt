@@ -3,14 +3,13 @@
 //! each class it evaluates each window at the points, gathers the values in the blocks, and adds the blocks' outputs.
 
 ghost use Rattle.std.specs.Prelude.{◌≡◌, ◌+◌, ◌-◌, ◌*◌, ◌^◌, ◌<◌, ◌≤◌, length, IfOk};
-ghost use Rattle.par2_spec.specs.Sums.{lists_of};
-ghost use Rattle.par2_transform.specs.Adding.{LieWithin};
-ghost use Rattle.par2_transform.specs.Blocks.{AreCoefficients, CoverOutputs, EachBlock, GathersWindow, HaveShape, IsGathered, class_sum_at};
+ghost use Rattle.par2_transform.specs.Blocks.{EachBlock, GathersWindow, IsGathered, class_sum_at};
 ghost use Rattle.par2_transform.specs.Chirps.{chirp_inverse, AreInverses};
 ghost use Rattle.par2_transform.specs.Columns.{byte_lists, words_at, recovered, AreByteLists};
 ghost use Rattle.par2_transform.specs.Grids.{HasSize, IsAdded};
-ghost use Rattle.par2_transform.specs.Outputs.{AddsIn};
-ghost use Rattle.par2_transform.specs.Plans.{cut_of};
+ghost use Rattle.par2_transform.specs.Locators.{HaveFirst};
+ghost use Rattle.par2_transform.specs.Outputs.{AddsIn, Fit};
+ghost use Rattle.par2_transform.specs.Plans.{AreReady, HaveShapes, cut_of};
 ghost use Rattle.par2_transform.specs.Transforms.{Reaches, coefficient_of};
 
 use crate::blocks::{Block, add_all, clear_all, gather_all};
@@ -108,8 +107,8 @@ impl<'a> Windows<'a> {
         requires class { r < self.now.plan.classes }
         requires window { a < self.now.plan.windows }
         requires levels { rows.old.levels ≡ self.now.plan.levels }
-        ensures { AreCoefficients (cut_of self.now.plan) self.now.slices r a from
-            self.now.plan.window rows.old rows.new }
+        ensures { HaveFirst self.now.plan.window (λ c m. coefficient_of (cut_of self.now.plan)
+            (words_at self.now.slices (from + c)) r (a * self.now.plan.window + m)) rows.old rows.new }
     {
         rows.clear();
         for i in 0..self.plan.window {
@@ -124,8 +123,7 @@ impl<'a> Windows<'a> {
         requires class { r < self.now.plan.classes }
         requires window { a < self.now.plan.windows }
         // The rows and the blocks have the shape of the plan.
-        requires rows { HasSize self.now.plan.levels self.now.plan.columns rows.old }
-        requires blocks { HaveShape (cut_of self.now.plan) self.now.plan.columns blocks.old }
+        requires shapes { HaveShapes self.now.plan rows.old blocks.old }
         // The rows keep their shape; what they hold is scratch.
         ensures rows { HasSize self.now.plan.levels self.now.plan.columns rows.new }
         // Each block gathers the values of this window and nothing else.
@@ -141,8 +139,7 @@ impl<'a> Windows<'a> {
     fn gather(&self, r: usize, from: usize, rows: &mut Rows, blocks: &mut [Block])
         // The class is the plan's, and the rows and the blocks have its shape.
         requires class { r < self.now.plan.classes }
-        requires rows { HasSize self.now.plan.levels self.now.plan.columns rows.old }
-        requires blocks { HaveShape (cut_of self.now.plan) self.now.plan.columns blocks.old }
+        requires shapes { HaveShapes self.now.plan rows.old blocks.old }
         // The rows keep their shape; what they hold is scratch.
         ensures rows { HasSize self.now.plan.levels self.now.plan.columns rows.new }
         // Each block holds the sums of all windows of this class, whatever it held before.
@@ -167,21 +164,14 @@ impl<'a> Windows<'a> {
     )
         // The class is the plan's, the rows and the blocks have its shape, and the blocks cover the outputs.
         requires class { r < self.now.plan.classes }
-        requires rows { HasSize self.now.plan.levels self.now.plan.columns rows.old }
-        requires blocks { CoverOutputs (cut_of self.now.plan) self.now.plan.columns self.now.first
-            self.now.plan.block (length columns.now.outputs.places.now) blocks.old }
+        requires ready { AreReady self.now.plan self.now.first columns.now.outputs rows.old blocks.old }
         // One block of columns at most, and the outputs lie inside the buffers.
-        requires columns { columns.now.to ≤ columns.now.from + self.now.plan.columns }
-        requires room { LieWithin columns.now.outputs.words columns.now.outputs.places.now
-            (lists_of buffers.old) }
+        requires fits { Fit self.now.plan.columns columns.now buffers.old }
         // The next class can use the rows and the blocks.
-        ensures rows { HasSize self.now.plan.levels self.now.plan.columns rows.new }
-        ensures blocks { CoverOutputs (cut_of self.now.plan) self.now.plan.columns self.now.first
-            self.now.plan.block (length columns.now.outputs.places.now) blocks.new }
+        ensures ready { AreReady self.now.plan self.now.first columns.now.outputs rows.new blocks.new }
         // The part of class r is added to these columns and to nothing else.
         ensures added { AddsIn columns.now (λ t p. class_sum_at (cut_of self.now.plan)
-            (words_at self.now.slices p) (self.now.first + t) r)
-            (lists_of buffers.old) (lists_of buffers.new) }
+            (words_at self.now.slices p) (self.now.first + t) r) buffers.old buffers.new }
     {
         if r == 0 && self.plan.classes == 3 {
             return;
@@ -203,21 +193,14 @@ impl<'a> Windows<'a> {
         buffers: &mut [Vec<u8>],
     )
         // The rows and the blocks have the shape of the plan, and the blocks cover the outputs.
-        requires rows { HasSize self.now.plan.levels self.now.plan.columns rows.old }
-        requires blocks { CoverOutputs (cut_of self.now.plan) self.now.plan.columns self.now.first
-            self.now.plan.block (length columns.now.outputs.places.now) blocks.old }
+        requires ready { AreReady self.now.plan self.now.first columns.now.outputs rows.old blocks.old }
         // One block of columns at most, and the outputs lie inside the buffers.
-        requires columns { columns.now.to ≤ columns.now.from + self.now.plan.columns }
-        requires room { LieWithin columns.now.outputs.words columns.now.outputs.places.now
-            (lists_of buffers.old) }
+        requires fits { Fit self.now.plan.columns columns.now buffers.old }
         // The next columns can use the rows and the blocks.
-        ensures rows { HasSize self.now.plan.levels self.now.plan.columns rows.new }
-        ensures blocks { CoverOutputs (cut_of self.now.plan) self.now.plan.columns self.now.first
-            self.now.plan.block (length columns.now.outputs.places.now) blocks.new }
+        ensures ready { AreReady self.now.plan self.now.first columns.now.outputs rows.new blocks.new }
         // The recovery slices are added in these columns, and nothing else changes.
         ensures added { AddsIn columns.now
-            (λ t p. recovered self.now.slices (self.now.first + t) p)
-            (lists_of buffers.old) (lists_of buffers.new) }
+            (λ t p. recovered self.now.slices (self.now.first + t) p) buffers.old buffers.new }
     {
         for r in 0..self.plan.classes {
             self.add_class(r, columns, rows, blocks, buffers);

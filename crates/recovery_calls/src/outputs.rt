@@ -9,7 +9,7 @@ ghost use Rattle.recovery_calls.specs.Outputs.{AreBeside};
 use crate::MOST_SLICES;
 use par2_gf16::Gf;
 use par2_solve::write_recovery_slices;
-use par2_transform::{Place, Places, add_recovery_slices_at};
+use par2_transform::{Place, Places, Transform};
 use std::alloc::{AllocError, Global};
 
 fn place_of(places: &[Place], t: usize) -> Place
@@ -144,7 +144,9 @@ pub fn slices_added(
         return Ok(None);
     }
     let outputs = Places::new(places, words);
-    add_recovery_slices_at(alloc, gf, slices, first, buffers, &outputs, 100 * 1024)?;
+    let room = 100 * 1024;
+    let transform = Transform { gf, slices, room };
+    transform.add_recovery_slices_at(alloc, first, buffers, &outputs)?;
     Ok(Some(()))
 }
 

@@ -1,19 +1,37 @@
-use Rattle.par2_transform.proofs.Common.{subst, sym, arith, lists_of, HasShape, cut_of}
-use Rattle.par2_transform.proofs.AddingLaws.{still_within}
-use Rattle.par2_transform.proofs.BlockLaws.{none_added, next_added}
+use Rattle.par2_transform.proofs.Common.{◌<◌, ◌≤◌, ◌*◌, ◌∙◌, arith, length, mul-le-mul_right, subst, sym, lists_of, AddsAt, HasShape, Keeps, cut_of}
+use Rattle.par2_transform.proofs.ColumnLaws.{still_fits}
+use Rattle.par2_transform.proofs.BlockLaws.{block_part, is_block_at, none_added, next_added, one_set}
 use Rattle.par2_transform.proofs.blocks.add_all.Goals as goal
 
 pub loop-j-init : goal.loop-j-init
 loop-j-init c = none_added c.args.columns.now.outputs.places.now c.args.columns.now.outputs.words (cut_of c.args.class.now.plan) c.args.class.now.plan.block c.args.class.now.number c.args.columns.now.from c.args.columns.now.to c.args.blocks.now (lists_of c.args.buffers.now)
 
-pub add_one-requires-clause-shape : goal.add_one-requires-clause-shape
-add_one-requires-clause-shape c =
-    subst (HasShape (cut_of c.args.class.now.plan) c.args.class.now.plan.columns) (sym (c.loop-j.invariant.kept.rest c.loop-j.j (omega arith))) (c.requires.shape c.loop-j.j (omega (arith, c.loop-j.invariant.kept.count, c.loop-j-test.true)))
+pub overflow_mul-j : goal.overflow_mul-j
+overflow_mul-j c =
+    let block = c.args.class.now.plan.block in
+    let more : c.loop-j.j * block ≤ length c.args.blocks.now * block = mul-le-mul_right block (omega arith) in
+    omega (arith, more, c.requires.few)
 
-pub add_one-requires-clause-room : goal.add_one-requires-clause-room
-add_one-requires-clause-room c = still_within c.args.columns.now.outputs.places.now c.args.columns.now.outputs.words c.args.columns.now.outputs.words _ (lists_of c.args.buffers.now) (lists_of c.loop-j.buffers) c.loop-j.invariant.added c.requires.room
+pub add_to-requires : goal.add_to-requires
+add_to-requires c =
+    let plan = c.args.class.now.plan in
+    let j = c.loop-j.j in
+    let so_far = c.loop-j.invariant in
+    let low : j < length c.loop-j.blocks = omega (arith, so_far.kept.count, c.loop-j-test.true) in
+    record {
+      shape = subst (HasShape (cut_of plan) plan.columns) (sym (is_block_at c.loop-j.blocks j c.index-blocks-j.result low ∙ so_far.kept.rest j (omega arith))) (c.requires.shape j (omega (arith, so_far.kept.count, low)));
+      fits = still_fits plan.columns c.args.columns.now _ c.args.buffers.now c.loop-j.buffers so_far.added c.requires.fits;
+    }
 
 pub loop-j-preserved : goal.loop-j-preserved
 loop-j-preserved c =
-    next_added c.args.columns.now.outputs.places.now c.args.columns.now.outputs.words (cut_of c.args.class.now.plan) c.args.class.now.plan.block c.args.class.now.number c.args.columns.now.from c.args.columns.now.to c.loop-j.j c.args.blocks.now c.loop-j.blocks c.add_one.new.blocks
-    (lists_of c.args.buffers.now) (lists_of c.loop-j.buffers) (lists_of c.add_one.new.buffers) c.loop-j.invariant c.add_one.ensures.kept c.add_one.ensures.added
+    let plan = c.args.class.now.plan in
+    let columns = c.args.columns.now in
+    let j = c.loop-j.j in
+    let before = lists_of c.loop-j.buffers in
+    let buffers = lists_of c.add_to.new.buffers in
+    let low : j < length c.loop-j.blocks = omega (arith, c.loop-j.invariant.kept.count, c.loop-j-test.true) in
+    next_added columns.outputs.places.now columns.outputs.words (cut_of plan) plan.block c.args.class.now.number columns.from columns.to j c.args.blocks.now c.loop-j.blocks _ (lists_of c.args.buffers.now) before buffers c.loop-j.invariant
+    (one_set Keeps c.loop-j.blocks j c.index-blocks-j.result c.add_to.new.self low c.add_to.ensures.kept)
+    (subst (λ b. AddsAt columns.outputs.places.now columns.outputs.words (block_part (cut_of plan) plan.block c.args.class.now.number columns.from columns.to b j) before buffers)
+    (is_block_at c.loop-j.blocks j c.index-blocks-j.result low) c.add_to.ensures.added)

@@ -2,23 +2,9 @@ use Rattle.par2_transform.proofs.Common.{ℕ, suc, ◌+◌, ◌-◌, ◌*◌, �
 use Rattle.std.proofs.lemmas.Bool.{false≢true}
 use Rattle.par2_transform.specs.Combinations.{IsSplit}
 use Rattle.par2_transform.proofs.GridLaws.{each_of, each_unchanged}
-use Rattle.par2_transform.proofs.RunLaws.{BothHalves, both_halves, evaluated_run, halves_below, listed_of_first, run_in_field, unchanged_run, value_of_one}
+use Rattle.par2_transform.proofs.RunLaws.{BothHalves, both_halves, evaluated_run, listed_of_first, lower_half, run_in_field, run_kept, upper_half, unchanged_run, value_of_one}
 use Rattle.par2_transform.proofs.cosets.+evaluate_run.Goals.{else-i-gt0-via-then-i-gt0+else-has_wanted, else-i-gt0-via-else-i-gt0}
 use Rattle.par2_transform.proofs.cosets.+evaluate_run.Goals as goal
-
-pub evaluate_run-requires : goal.evaluate_run-requires
-evaluate_run-requires t c =
-    let same = c.split.ensures.levels in
-    let halves = halves_below c.args.rows.now.levels c.args.i c.args.q c.if-i-gt0.true c.requires.level c.requires.run in
-    let cosets = halves_below 16 c.args.i c.args.number c.if-i-gt0.true (omega (arith, c.requires.few, c.requires.level)) c.requires.number in
-    (omega (arith, c.decreases, c.if-i-gt0.true), (omega (arith, same, c.requires.few), (omega (arith, same, c.requires.level), (subst (λ n. 2 * c.args.q < 2 ^ (n - (c.args.i - 1))) (sym same) (omega (arith, halves)), (omega (arith, cosets), c.requires.list)))))
-
-pub evaluate_run-requires-then-has_wanted : goal.evaluate_run-requires-then-has_wanted
-evaluate_run-requires-then-has_wanted t c =
-    let same : c.evaluate_run.new.rows.levels ≡ c.args.rows.now.levels = c.evaluate_run.ensures.levels ∙ c.split.ensures.levels in
-    let halves = halves_below c.args.rows.now.levels c.args.i c.args.q c.if-i-gt0.true c.requires.level c.requires.run in
-    let cosets = halves_below 16 c.args.i c.args.number c.if-i-gt0.true (omega (arith, c.requires.few, c.requires.level)) c.requires.number in
-    (omega (arith, c.decreases, c.if-i-gt0.true), (omega (arith, same, c.requires.few), (omega (arith, same, c.requires.level), (subst (λ n. 2 * c.args.q + 1 < 2 ^ (n - (c.args.i - 1))) (sym same) halves, (cosets, c.requires.list)))))
 
 pub returns-then-has_wanted : goal.returns-then-has_wanted
 returns-then-has_wanted t c =
@@ -40,7 +26,7 @@ returns-then-has_wanted t c =
     (each_of low high both b d e c.evaluate_run.ensures c.evaluate_run-then-has_wanted.ensures
     (λ k one two. both_halves i q (AreListedValues next i (2 * n)) (AreListedValues next i (2 * n + 1)) (listed_of_first next i (2 * n)) (listed_of_first next i (2 * n + 1)) (column b k) (column d k) (column e k) one two))
     (λ k one two. evaluated_run next i q n (column a k) (column b k) (column e k) (c.fit.ensures k)
-    (run_in_field 16 c.args.i n (omega arith) c.if-i-gt0.true (omega (arith, c.requires.few, c.requires.level)) c.requires.number) one two))
+    (run_in_field 16 c.args.i n (omega arith) c.if-i-gt0.true c.requires.coset.level c.requires.coset.run) one two))
 
 pub returns-else-i-gt0 : goal.returns-else-i-gt0
 returns-else-i-gt0 t c = elim c.else-i-gt0.branch [
@@ -64,3 +50,13 @@ returns-else-i-gt0 t c = elim c.else-i-gt0.branch [
 
     a : Grid
     a = c.args.rows.now
+
+pub evaluate_run-requires : goal.evaluate_run-requires
+evaluate_run-requires t c =
+    let run = run_kept c.split.ensures.levels (lower_half c.args.rows.now.levels c.args.i c.args.q c.if-i-gt0.true c.requires.run) in
+    (omega (arith, c.decreases, c.if-i-gt0.true), (run, (lower_half 16 c.args.i c.args.number c.if-i-gt0.true c.requires.coset, c.requires.list)))
+
+pub evaluate_run-requires-then-has_wanted : goal.evaluate_run-requires-then-has_wanted
+evaluate_run-requires-then-has_wanted t c =
+    let run = run_kept (c.evaluate_run.ensures.levels ∙ c.split.ensures.levels) (upper_half c.args.rows.now.levels c.args.i c.args.q c.if-i-gt0.true c.requires.run) in
+    (omega (arith, c.decreases, c.if-i-gt0.true), (run, (upper_half 16 c.args.i c.args.number c.if-i-gt0.true c.requires.coset, c.requires.list)))

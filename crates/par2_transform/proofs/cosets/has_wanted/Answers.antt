@@ -14,12 +14,12 @@ places i number few low =
 pub bounds-next-first : goal.bounds-next-first
 bounds-next-first c =
     let long : length c.in-Some.next.now ≡ 65536 = subst (λ o. IfSome o (λ list. length list.now ≡ 65536)) c.in-Some.is c.requires.list in
-    omega (arith, long, places c.args.i c.args.number c.requires.few c.requires.number)
+    omega (arith, long, places c.args.i c.args.number c.requires.coset.level c.requires.coset.run)
 
 pub returns : goal.returns
 returns c u low listed =
     let first = c.args.number * 2 ^ c.args.i in
-    let at = places c.args.i c.args.number c.requires.few c.requires.number in
+    let at = places c.args.i c.args.number c.requires.coset.level c.requires.coset.run in
     let here : slice_index c.in-Some.next.now first ≤ first + u = subst (λ o. listed_by o first ≤ first + u) c.in-Some.is (listed first (omega arith)) in
     lt-ltb (slice_index c.in-Some.next.now (first % 18446744073709551616)) (first % 18446744073709551616 + 1 * 2 ^ c.args.i % 18446744073709551616)
     (subst (λ n. slice_index c.in-Some.next.now n < n + 1 * 2 ^ c.args.i % 18446744073709551616) (sym at.0) (omega (arith, here, low, at)))

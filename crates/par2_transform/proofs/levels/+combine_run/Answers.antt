@@ -2,20 +2,8 @@ use Rattle.par2_transform.proofs.Common.{suc, ◌+◌, ◌-◌, ◌*◌, ◌%◌
 use Rattle.par2_transform.specs.Combinations.{IsCombination, IsHalved}
 use Rattle.par2_transform.proofs.GridLaws.{each_of, each_unchanged}
 use Rattle.par2_transform.proofs.StepLaws.{shifted}
-use Rattle.par2_transform.proofs.RunLaws.{BothHalves, both_halves, combination_of_first, combination_of_one, combined_run, halves_below, unchanged_run}
+use Rattle.par2_transform.proofs.RunLaws.{BothHalves, both_halves, combination_of_first, combination_of_one, combined_run, lower_half, run_kept, upper_half, unchanged_run}
 use Rattle.par2_transform.proofs.levels.+combine_run.Goals as goal
-
-pub combine_run-requires : goal.combine_run-requires
-combine_run-requires t c =
-    let same = c.halve.ensures.levels in
-    let halves = halves_below c.args.rows.now.levels c.args.i c.args.q c.if-i-gt0.true c.requires.level c.requires.run in
-    (omega (arith, c.decreases, c.if-i-gt0.true), (omega (arith, same, c.requires.few), (omega (arith, same, c.requires.level), subst (λ n. 2 * c.args.q < 2 ^ (n - (c.args.i - 1))) (sym same) (omega (arith, halves)))))
-
-pub combine_run-requires-then-i-gt0 : goal.combine_run-requires-then-i-gt0
-combine_run-requires-then-i-gt0 t c =
-    let same : c.combine_run.new.rows.levels ≡ c.args.rows.now.levels = c.combine_run.ensures.levels ∙ c.halve.ensures.levels in
-    let halves = halves_below c.args.rows.now.levels c.args.i c.args.q c.if-i-gt0.true c.requires.level c.requires.run in
-    (omega (arith, c.decreases, c.if-i-gt0.true), (omega (arith, same, c.requires.few), (omega (arith, same, c.requires.level), subst (λ n. 2 * c.args.q + 1 < 2 ^ (n - (c.args.i - 1))) (sym same) halves)))
 
 pub returns-then-i-gt0 : goal.returns-then-i-gt0
 returns-then-i-gt0 t c =
@@ -50,3 +38,11 @@ returns-else-i-gt0 t c =
     let n = c.args.count in
     subst (λ k. EachColumn (OneRun (q * 2 ^ k) (2 ^ k) (IsCombination n k)) a a) none
     (each_unchanged (OneRun (q * 2 ^ 0) (2 ^ 0) (IsCombination n 0)) a (λ k. unchanged_run (q * 2 ^ 0) (2 ^ 0) (IsCombination n 0) (column a k) (combination_of_one n (from (q * 2 ^ 0) (column a k)) (c.fit.ensures k _))))
+
+pub combine_run-requires : goal.combine_run-requires
+combine_run-requires t c =
+    (omega (arith, c.decreases, c.if-i-gt0.true), run_kept c.halve.ensures.levels (lower_half c.args.rows.now.levels c.args.i c.args.q c.if-i-gt0.true c.requires))
+
+pub combine_run-requires-then-i-gt0 : goal.combine_run-requires-then-i-gt0
+combine_run-requires-then-i-gt0 t c =
+    (omega (arith, c.decreases, c.if-i-gt0.true), run_kept (c.combine_run.ensures.levels ∙ c.halve.ensures.levels) (upper_half c.args.rows.now.levels c.args.i c.args.q c.if-i-gt0.true c.requires))

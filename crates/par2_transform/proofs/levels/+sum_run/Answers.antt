@@ -1,18 +1,7 @@
 use Rattle.par2_transform.proofs.Common.{suc, ◌+◌, ◌-◌, ◌*◌, ◌^◌, ◌<◌, ◌≡◌, sym, subst, arith, point, ArePowerSums, EachColumn, IsMerged, OneRun, column, from}
 use Rattle.par2_transform.proofs.GridLaws.{each_of, each_unchanged}
-use Rattle.par2_transform.proofs.RunLaws.{BothHalves, both_halves, halves_below, run_in_field, sum_of_one, summed_run, sums_of_first, unchanged_run}
+use Rattle.par2_transform.proofs.RunLaws.{BothHalves, both_halves, lower_half, run_in_field, run_kept, upper_half, sum_of_one, summed_run, sums_of_first, unchanged_run}
 use Rattle.par2_transform.proofs.levels.+sum_run.Goals as goal
-
-pub sum_run-requires : goal.sum_run-requires
-sum_run-requires t c =
-    let halves = halves_below c.args.rows.now.levels c.args.i c.args.q c.if-i-gt0.true c.requires.level c.requires.run in
-    (omega (arith, c.decreases, c.if-i-gt0.true), (c.requires.few, (omega (arith, c.requires.level), omega (arith, halves))))
-
-pub sum_run-requires-then-i-gt0 : goal.sum_run-requires-then-i-gt0
-sum_run-requires-then-i-gt0 t c =
-    let same = c.sum_run.ensures.levels in
-    let halves = halves_below c.args.rows.now.levels c.args.i c.args.q c.if-i-gt0.true c.requires.level c.requires.run in
-    (omega (arith, c.decreases, c.if-i-gt0.true), (omega (arith, same, c.requires.few), (omega (arith, same, c.requires.level), subst (λ n. 2 * c.args.q + 1 < 2 ^ (n - (c.args.i - 1))) (sym same) halves)))
 
 pub returns-then-i-gt0 : goal.returns-then-i-gt0
 returns-then-i-gt0 t c =
@@ -39,3 +28,10 @@ returns-else-i-gt0 t c =
     let a = c.args.rows.now in
     subst (λ n. EachColumn (OneRun (q * 2 ^ n) (2 ^ n) (ArePowerSums n q)) a a) none
     (each_unchanged (OneRun (q * 2 ^ 0) (2 ^ 0) (ArePowerSums 0 q)) a (λ d. unchanged_run (q * 2 ^ 0) (2 ^ 0) (ArePowerSums 0 q) (column a d) (sum_of_one q (from (q * 2 ^ 0) (column a d)) (c.fit.ensures d _))))
+
+pub sum_run-requires : goal.sum_run-requires
+sum_run-requires t c = (omega (arith, c.decreases, c.if-i-gt0.true), lower_half c.args.rows.now.levels c.args.i c.args.q c.if-i-gt0.true c.requires)
+
+pub sum_run-requires-then-i-gt0 : goal.sum_run-requires-then-i-gt0
+sum_run-requires-then-i-gt0 t c =
+    (omega (arith, c.decreases, c.if-i-gt0.true), run_kept c.sum_run.ensures.levels (upper_half c.args.rows.now.levels c.args.i c.args.q c.if-i-gt0.true c.requires))

@@ -1,5 +1,5 @@
 use Rattle.par2_transform.proofs.Common.{◌+◌, ◌-◌, ◌*◌, ◌%◌, ◌^◌, ◌<◌, ◌≡◌, inl, inr, subst, arith, EachColumn, RunAdded, AheadAdded}
-use Rattle.par2_transform.proofs.StepLaws.{rows_within, shifts, run_at, ahead_start, ahead_set, ahead_unset}
+use Rattle.par2_transform.proofs.StepLaws.{shifts, run_at, ahead_start, ahead_set, ahead_unset}
 use Rattle.par2_transform.proofs.GridLaws.{each_start, each_then, each_so}
 use Rattle.par2_transform.proofs.levels.add_lower_ahead.Goals.{then-powers-j-eq1, else-powers-j-eq1}
 use Rattle.par2_transform.proofs.levels.add_lower_ahead.Goals as goal
@@ -36,15 +36,10 @@ returns c =
     let end : l.j ≡ c.args.i = omega arith in
     subst (λ n. EachColumn (AheadAdded c.args.i c.args.start 0 (2 ^ c.args.i) n) c.args.rows.now l.rows) end l.invariant
 
-pub add_rows-requires-clause-from : goal.add_rows-requires-clause-from
-add_rows-requires-clause-from c = rows_within c.loop-j.invariant.levels (omega (arith, shifts c.args.i c.loop-j.j (omega arith) (omega arith), c.requires.fits))
-
-pub add_rows-requires-clause-to : goal.add_rows-requires-clause-to
-add_rows-requires-clause-to c = rows_within c.loop-j.invariant.levels (omega (arith, shifts c.args.i c.loop-j.j (omega arith) (omega arith), c.requires.fits))
-
-pub add_rows-requires-clause-apart : goal.add_rows-requires-clause-apart
-add_rows-requires-clause-apart c =
-    inl (omega (arith, shifts c.args.i c.loop-j.j (omega arith) (omega arith)))
-
 pub overflow_sub-half : goal.overflow_sub-half
 overflow_sub-half c = omega (arith, shifts c.args.i c.loop-j.j (omega arith) (omega arith))
+
+pub add_rows-requires : goal.add_rows-requires
+add_rows-requires c =
+    let places = shifts c.args.i c.loop-j.j (omega arith) (omega arith) in
+    rw c.loop-j.invariant.levels (record { from = omega (arith, places, c.requires.fits); to = omega (arith, places, c.requires.fits); apart = inl (omega (arith, places)) })

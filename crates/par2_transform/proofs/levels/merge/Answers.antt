@@ -1,5 +1,5 @@
 use Rattle.par2_transform.proofs.Common.{suc, ◌+◌, ◌*◌, ◌%◌, ◌^◌, ◌≡◌, ap, ◌∙◌, arith, point, IsMerged, OneRun, RunAdded, IsRaised}
-use Rattle.par2_transform.proofs.StepLaws.{rows_within, shifted, pair_places, run_starts, merged_runs, run_at, raised_at}
+use Rattle.par2_transform.proofs.StepLaws.{shifted, pair_of_run, pair_kept, upper_to_lower, run_starts, merged_runs, run_at, raised_at}
 use Rattle.par2_transform.proofs.GridLaws.{each_then}
 use Rattle.par2_transform.proofs.levels.merge.Goals as goal
 
@@ -17,13 +17,8 @@ returns c =
     (run_at (q * 2 * shift + shift) (start + 2 ^ i) (q * 2 * shift) start shift (2 ^ i) f g (omega arith) is half first)
     (raised_at i c.point.result (point (2 * q)) (q * 2 * shift) start g h c.point.ensures is second))
 
-pub add_rows-requires-clause-from : goal.add_rows-requires-clause-from
-add_rows-requires-clause-from c =
-    omega (arith, pair_places c.args.rows.now.levels c.args.i c.args.q (omega arith) c.requires.level c.requires.pair)
+pub add_rows-requires : goal.add_rows-requires
+add_rows-requires c = upper_to_lower c.args.rows.now.levels c.args.i _ (pair_of_run c.args.rows.now.levels c.args.i c.args.q c.requires)
 
-pub add_rows-requires-clause-to : goal.add_rows-requires-clause-to
-add_rows-requires-clause-to c =
-    omega (arith, pair_places c.args.rows.now.levels c.args.i c.args.q (omega arith) c.requires.level c.requires.pair)
-
-pub raise-requires-clause-fits : goal.raise-requires-clause-fits
-raise-requires-clause-fits c = rows_within c.add_rows.ensures.levels (omega (arith, pair_places c.args.rows.now.levels c.args.i c.args.q (omega arith) c.requires.level c.requires.pair))
+pub raise-requires : goal.raise-requires
+raise-requires c = pair_kept c.add_rows.ensures.levels (pair_of_run c.args.rows.now.levels c.args.i c.args.q c.requires)

@@ -1,5 +1,6 @@
 use Rattle.par2_transform.proofs.Common.{ℕ, List, ◌+◌, ◌^◌, ◌<◌, ◌≡◌, ◌∙◌, sym, ap, ap₂, subst, arith, length, mul, word, byte_lists, words_at, HaveFirst}
-use Rattle.par2_transform.proofs.LocatorLaws.{no_first, next_first, one_times, words_at-lt}
+use Rattle.par2_transform.proofs.GridLaws.{no_first, next_first}
+use Rattle.par2_transform.proofs.LocatorLaws.{one_times, words_at-lt}
 use Rattle.par2_transform.proofs.numerators.fill.Goals as goal
 
 pub loop-s-init : goal.loop-s-init

@@ -7,7 +7,7 @@ pub loop-t-init : goal.loop-t-init
 loop-t-init c = no_output c.args.columns.now.outputs.places.now c.args.columns.now.outputs.words (cut_of c.args.class.now.plan) c.args.self.now.sums c.args.self.now.exponent c.args.class.now.number c.args.columns.now.from c.args.columns.now.to c.args.first (lists_of c.args.buffers.now)
 
 pub add-requires-clause-room : goal.add-requires-clause-room
-add-requires-clause-room c = still_within c.args.columns.now.outputs.places.now c.args.columns.now.outputs.words c.args.columns.now.outputs.words _ (lists_of c.args.buffers.now) (lists_of c.loop-t.buffers) c.loop-t.invariant c.requires.room
+add-requires-clause-room c = still_within c.args.columns.now.outputs.places.now c.args.columns.now.outputs.words c.args.columns.now.outputs.words _ (lists_of c.args.buffers.now) (lists_of c.loop-t.buffers) c.loop-t.invariant c.requires.fits.room
 
 pub loop-t-preserved : goal.loop-t-preserved
 loop-t-preserved c =
@@ -17,7 +17,7 @@ loop-t-preserved c =
     let sums : c.self.inside.sums ≡ was.sums = ap (λ (b : Outputs). b.sums) c.self.view_is in
     let exponent : c.self.inside.exponent ≡ was.exponent = ap (λ (b : Outputs). b.exponent) c.self.view_is in
     let low : t < 2 ^ plan.levels = omega (arith, c.loop-t-test.true, c.min-t-end.ensures, plan.fit, plan.some.0) in
-    let narrow : c.args.columns.now.to ≤ c.args.columns.now.from + was.sums.words = omega (arith, c.requires.columns, c.requires.shape.words) in
+    let narrow : c.args.columns.now.to ≤ c.args.columns.now.from + was.sums.words = omega (arith, c.requires.fits.narrow, c.requires.shape.words) in
     next_output c.args.columns.now.outputs.places.now c.args.columns.now.outputs.words (cut_of plan) was.sums c.power_sums.new.rows was.exponent c.args.class.now.number c.args.columns.now.from c.args.columns.now.to c.args.first t c.factor_of-factor.result c.row.result.now
     (lists_of c.args.buffers.now) (lists_of c.loop-t.buffers) (lists_of c.add.new.buffers)
     (subst (λ s. EachColumn (ArePowerSums s.levels 0) s c.power_sums.new.rows) sums c.power_sums.ensures) c.requires.shape.levels low narrow

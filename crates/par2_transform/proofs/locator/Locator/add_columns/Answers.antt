@@ -1,5 +1,5 @@
 use Rattle.par2_transform.proofs.Common.{◌+◌, ◌-◌, ◌^◌, ◌<◌, ◌≡◌, ◌∙◌, refl, ap, sym, subst, arith, length, mul, pow, Grid, column, field_sum_same, numerator, lists_of, byte_lists, words_at, quotient_sum}
-use Rattle.par2_transform.proofs.AddingLaws.{still_within}
+use Rattle.par2_transform.proofs.ColumnLaws.{wider_fit}
 use Rattle.par2_transform.specs.Locators.{HoldNumerators}
 use Rattle.par2_transform.proofs.LocatorLaws.{shifted_most, no_coset, next_coset, all_cosets}
 use Rattle.par2_transform.proofs.locator.Locator.add_columns.Goals as goal
@@ -25,16 +25,17 @@ add_coset-requires c =
     let words = combinations.words ∙ sym mid.same_words ∙ numerators.words ∙ was.same_words in
     record {
       coset = subst (λ n. l.coset < n) (shifted_most (16 - self.levels) (omega arith)) c.loop-coset-test.true;
-      count = c.requires.count;
-      levels = ap (λ (g : Grid). g.levels) l.invariant.kept ∙ levels ∙ c.requires.levels;
+      serves = record {
+        count = c.requires.serves.count;
+        levels = ap (λ (g : Grid). g.levels) l.invariant.kept ∙ levels ∙ c.requires.serves.levels;
+        fits = wider_fit was.rows.words l.scratch.rows.words c.args.columns.now _ c.args.buffers.now l.buffers l.invariant.added c.requires.serves.fits (let same = ap (λ (g : Grid). g.words) l.invariant.kept ∙ words in omega (arith, same));
+      };
       bytes = c.sum.ensures.bytes;
       numerators = subst (HoldNumerators self.levels self.numerators.sequence.items (byte_lists c.args.sources.now) c.args.columns.now.from) (sym l.invariant.kept)
           (λ k x low hx.
           combinations.each k x (omega (arith, low, combinations.words)) hx
           ∙ field_sum_same n (λ t. mul (column mid.sums k t) (pow x t)) (λ t. mul (numerator self.numerators.sequence.items (words_at (byte_lists c.args.sources.now) (c.args.columns.now.from + k)) t) (pow x t))
           (λ t h. ap (λ v. mul v (pow x t)) (numerators.each k t (omega (arith, low, words, was.same_words)) (omega (arith, h, self.whole)))));
-      columns = let same = ap (λ (g : Grid). g.words) l.invariant.kept ∙ words in omega (arith, c.requires.columns, same);
-      room = still_within c.args.columns.now.outputs.places.now c.args.columns.now.outputs.words c.args.columns.now.outputs.words _ (lists_of c.args.buffers.now) (lists_of l.buffers) l.invariant.added c.requires.room;
     }
 
 pub loop-coset-preserved : goal.loop-coset-preserved
@@ -47,11 +48,11 @@ loop-coset-preserved c =
           (lists_of c.args.buffers.now) (lists_of l.buffers) (lists_of c.add_coset.new.buffers) l.invariant.added c.add_coset.ensures.added;
     }
 
-pub returns-clause-levels : goal.returns-clause-levels
-returns-clause-levels c = ap (λ (g : Grid). g.levels) c.loop-coset.invariant.kept ∙ c.combine.ensures.levels ∙ sym c.sum.new.scratch.same_levels ∙ c.sum.ensures.numerators.levels ∙ c.args.scratch.now.same_levels
-
-pub returns-clause-words : goal.returns-clause-words
-returns-clause-words c = ap (λ (g : Grid). g.words) c.loop-coset.invariant.kept ∙ c.combine.ensures.words ∙ sym c.sum.new.scratch.same_words ∙ c.sum.ensures.numerators.words ∙ c.args.scratch.now.same_words
+pub returns-clause-size : goal.returns-clause-size
+returns-clause-size c = record {
+  levels = ap (λ (g : Grid). g.levels) c.loop-coset.invariant.kept ∙ c.combine.ensures.levels ∙ sym c.sum.new.scratch.same_levels ∙ c.sum.ensures.numerators.levels ∙ c.args.scratch.now.same_levels;
+  words = ap (λ (g : Grid). g.words) c.loop-coset.invariant.kept ∙ c.combine.ensures.words ∙ sym c.sum.new.scratch.same_words ∙ c.sum.ensures.numerators.words ∙ c.args.scratch.now.same_words;
+}
 
 pub returns-clause-added : goal.returns-clause-added
 returns-clause-added c =

@@ -1,5 +1,5 @@
 use Rattle.par2_transform.proofs.Common.{◌-◌, ◌*◌, ◌^◌, ◌<◌, ◌≡◌, ◌∙◌, sym, arith, rules, length, get_or, mul, lists_of, byte_lists, words_at, column, quotient_sum}
-use Rattle.par2_transform.proofs.AddingLaws.{still_within}
+use Rattle.par2_transform.proofs.ColumnLaws.{wider_fit}
 use Rattle.par2_transform.proofs.LocatorLaws.{none_added_yet, next_point, all_added, coset_part, given_is}
 use Rattle.par2_transform.proofs.locator.Locator.add_coset.Goals as goal
 
@@ -9,10 +9,11 @@ add_point-requires c =
     record {
       coset = c.requires.coset;
       place = low;
-      count = c.requires.count;
-      rows = c.evaluate.ensures.values.levels ∙ c.args.scratch.now.same_levels ∙ c.requires.levels;
-      columns = omega (arith, c.requires.columns, c.evaluate.ensures.values.words, c.args.scratch.now.same_words);
-      room = still_within c.args.columns.now.outputs.places.now c.args.columns.now.outputs.words c.args.columns.now.outputs.words _ (lists_of c.args.buffers.now) (lists_of c.loop-j.buffers) c.loop-j.invariant c.requires.room;
+      serves = record {
+        count = c.requires.serves.count;
+        levels = c.evaluate.ensures.values.levels ∙ c.args.scratch.now.same_levels ∙ c.requires.serves.levels;
+        fits = wider_fit c.args.scratch.now.rows.words _ c.args.columns.now _ c.args.buffers.now c.loop-j.buffers c.loop-j.invariant c.requires.serves.fits (omega (arith, c.evaluate.ensures.values.words, c.args.scratch.now.same_words));
+      };
     }
 
 pub loop-j-init : goal.loop-j-init
@@ -32,8 +33,8 @@ loop-j-preserved c =
     (lists_of c.args.buffers.now) (lists_of c.loop-j.buffers) (lists_of c.add_point.new.buffers) c.loop-j.invariant c.add_point.ensures
     (λ p from_here high first last.
     given_is self.numerators.sequence.items self.points.items self.factors.items self.numbers.items self.next.items sources self.levels c.args.coset c.args.columns.now.from c.args.scratch.now.rows c.args.scratch.now.sums rows
-    c.requires.bytes self.numerators.elements self.elements.points_fit self.elements.factors_fit self.numbered c.evaluate.ensures.values (sym c.args.scratch.now.same_words) c.requires.numerators
-    c.loop-j.j p (omega (arith, low, c.requires.count)) from_here (omega (arith, high, c.requires.columns, c.args.scratch.now.same_words)) first last)
+    c.requires.bytes self.numerators.elements self.points_fit self.factors_fit self.numbered c.evaluate.ensures.values (sym c.args.scratch.now.same_words) c.requires.numerators
+    c.loop-j.j p (omega (arith, low, c.requires.serves.count)) from_here (omega (arith, high, c.requires.serves.fits.narrow, c.args.scratch.now.same_words)) first last)
 
 pub returns-clause-added : goal.returns-clause-added
 returns-clause-added c =

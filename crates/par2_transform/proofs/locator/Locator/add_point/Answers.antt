@@ -8,7 +8,7 @@ row-requires c =
     let few = less_rows self.levels self.numerators.levels self.few in
     let size = shifted_most self.levels (omega (arith, self.few, self.numerators.few)) in
     let low : c.word_or_zero-number.result - c.args.coset * 2 ^ self.levels % 18446744073709551616 < 2 ^ self.numerators.levels = omega (arith, few, size, c.if-u-self.true) in
-    subst (λ m. c.word_or_zero-number.result - c.args.coset * 2 ^ self.levels % 18446744073709551616 < 2 ^ m) (sym c.requires.rows) low
+    subst (λ m. c.word_or_zero-number.result - c.args.coset * 2 ^ self.levels % 18446744073709551616 < 2 ^ m) (sym c.requires.serves.levels) low
 
 pub returns-then-number-first : goal.returns-then-number-first
 returns-then-number-first c =

@@ -12,10 +12,14 @@ add_columns-requires c =
     let is = c.columns-columns.ensures in
     record {
       sources = c.requires.sources;
-      count = subst (λ (o : Places). length o.places.now ≡ length c.args.self.now.points.items) (sym is.outputs) c.requires.count;
-      levels = l.invariant.levels;
-      columns = omega (arith, is.from, is.to, l.invariant.words);
-      room = columns_within outputs c.columns-columns.result _ (lists_of c.args.buffers.now) (lists_of l.buffers) is.outputs l.invariant.added c.requires.room;
+      serves = record {
+        count = subst (λ (o : Places). length o.places.now ≡ length c.args.self.now.points.items) (sym is.outputs) c.requires.count;
+        levels = l.invariant.levels;
+        fits = record {
+          narrow = omega (arith, is.from, is.to, l.invariant.words);
+          room = columns_within outputs c.columns-columns.result _ (lists_of c.args.buffers.now) (lists_of l.buffers) is.outputs l.invariant.added c.requires.room;
+        };
+      };
     }
 
 pub loop-k-init : goal.loop-k-init
@@ -36,8 +40,8 @@ loop-k-preserved c =
     let e = c.add_columns.ensures in
     let low = begins c.args.outputs.now.words width l.k c.div_ceil-k-end.result (let some = c.columns_for-width.ensures.0 in some) c.div_ceil-k-end.ensures c.loop-k-test.true in
     record {
-      levels = e.levels ∙ l.invariant.levels;
-      words = e.words ∙ l.invariant.words;
+      levels = e.size.levels ∙ l.invariant.levels;
+      words = e.size.words ∙ l.invariant.words;
       added = next_words c.args.outputs.now c.columns-columns.result width l.k (λ t p. quotient_sum self.numerators.sequence.items self.points.items self.factors.items (words_at (byte_lists c.args.sources.now) p) t) (lists_of c.args.buffers.now) (lists_of l.buffers) (lists_of c.add_columns.new.buffers)
           l.invariant.added low is.outputs is.from is.to e.added;
     }

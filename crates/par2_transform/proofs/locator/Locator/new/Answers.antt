@@ -16,10 +16,8 @@ invariant_of-result c = record {
       subst (λ m. length numerators.sequence.items ≤ 2 ^ m) (sym low) (half_fits (length numerators.sequence.items) numerators.levels (omega (arith, numerators.fit, same))));
   whole = whole;
   factors_count = c.requires.factors;
-  elements = record {
-    points_fit = points_fit;
-    factors_fit = subst (λ (xs : List ℕ). GivesElements (slice_index xs)) c.deref-4.ensures.value c.fit_words-2.ensures;
-  };
+  points_fit = points_fit;
+  factors_fit = subst (λ (xs : List ℕ). GivesElements (slice_index xs)) c.deref-4.ensures.value c.fit_words-2.ensures;
   numbered = numbered_by c.args.points.items c.deref.result.now c.in_ok-numbers.numbers.items c.deref-2.result.now c.in_ok-next.next.items points_fit c.deref.ensures.value c.in_ok-numbers.ensures c.deref-2.ensures.value c.in_ok-next.ensures.count c.in_ok-next.ensures.listed;
 }
   where

@@ -19,12 +19,12 @@ loop-t-preserved c =
     let place : c.args.columns.now.from + (p - c.args.columns.now.from) ≡ p = omega (arith, first) in
     ap (mul 1)
     (c.row.ensures.words (p - c.args.columns.now.from)
-    ∙ numerators.each (p - c.args.columns.now.from) l.t (omega (arith, first, last, c.requires.columns, c.args.scratch.now.same_words)) (omega (arith, low, c.requires.count))
+    ∙ numerators.each (p - c.args.columns.now.from) l.t (omega (arith, first, last, c.requires.fits.narrow, c.args.scratch.now.same_words)) (omega (arith, low, c.requires.count))
     ∙ ap (λ q. numerator self.sequence.items (words_at sources q) l.t) place)
     ∙ one_times (numerator self.sequence.items (words_at sources p) l.t) (numerator-lt self.sequence.items sources p l.t c.sum.ensures.bytes self.elements))
 
-pub returns-clause-levels : goal.returns-clause-levels
-returns-clause-levels c = sym c.sum.new.scratch.same_levels ∙ c.sum.ensures.numerators.levels ∙ c.args.scratch.now.same_levels
-
-pub returns-clause-words : goal.returns-clause-words
-returns-clause-words c = sym c.sum.new.scratch.same_words ∙ c.sum.ensures.numerators.words ∙ c.args.scratch.now.same_words
+pub returns-clause-size : goal.returns-clause-size
+returns-clause-size c = record {
+  levels = sym c.sum.new.scratch.same_levels ∙ c.sum.ensures.numerators.levels ∙ c.args.scratch.now.same_levels;
+  words = sym c.sum.new.scratch.same_words ∙ c.sum.ensures.numerators.words ∙ c.args.scratch.now.same_words;
+}

@@ -10,8 +10,10 @@ gather_rows-requires c =
     let sums_levels = c.clear.ensures.levels ∙ (c.args.scratch.now.same_levels ∙ c.requires.levels) in
     record {
       weights = ap (λ (xs : List ℕ). length xs) c.deref.ensures.value ∙ c.args.self.now.weighed.count ∙ ap (λ m. 2 ^ m) (sym sums_levels);
-      levels = c.values_at_points.ensures.levels ∙ c.fill.ensures.rows.levels ∙ c.requires.levels ∙ sym sums_levels;
-      words = c.values_at_points.ensures.words ∙ c.fill.ensures.rows.words ∙ (sym c.args.scratch.now.same_words) ∙ sym c.clear.ensures.words;
+      same = record {
+        levels = c.values_at_points.ensures.levels ∙ c.fill.ensures.rows.levels ∙ c.requires.levels ∙ sym sums_levels;
+        words = c.values_at_points.ensures.words ∙ c.fill.ensures.rows.words ∙ (sym c.args.scratch.now.same_words) ∙ sym c.clear.ensures.words;
+      };
     }
 
 pub returns-clause-numerators : goal.returns-clause-numerators

@@ -1,28 +1,6 @@
-use Rattle.par2_transform.proofs.Common.{rules, arith, ◌≡◌, ◌+◌, ◌-◌, ◌*◌, ◌^◌, ◌≤◌, ◌∙◌, ap, sym, subst, List, ℕ, length, with_items_is, word, within, AddsTo, Grid, EachColumn, RunAdded}
-use Rattle.par2_transform.proofs.GridLaws.{rows_fit, rows_apart, run_added_at, kept_rows}
+use Rattle.par2_transform.proofs.Common.{rules, AreTwoRuns, ◌≡◌, ◌+◌, ◌-◌, ◌*◌, ◌^◌, ◌≤◌, ◌∙◌, ap, sym, subst, List, ℕ, length, with_items_is, word, within, AddsTo, Grid, EachColumn, RunAdded}
+use Rattle.par2_transform.proofs.GridLaws.{row_runs, run_added_at, kept_rows}
 use Rattle.par2_transform.proofs.rows.Rows.add_rows.Goals as goal
-
-pub add_words_within-requires-clause-from : goal.add_words_within-requires-clause-from
-add_words_within-requires-clause-from c =
-    let inside = c.self.inside in
-    let from = c.place-from.ensures ∙ ap (λ (g : Grid). c.args.from * g.words) (sym c.self.view_is) in
-    let count = c.place-count.ensures ∙ ap (λ (g : Grid). c.args.count * g.words) (sym c.self.view_is) in
-    let fits = rows_fit inside.levels inside.words c.args.from c.args.count inside.bytes.items c.self.invariant.0 (subst (λ (g : Grid). c.args.from + c.args.count ≤ 2 ^ g.levels) (sym c.self.view_is) c.requires.from) in
-    let size = ap (λ (xs : List ℕ). length xs) c.as_mut_slice.ensures.value in
-    omega (arith, from, count, fits, size)
-
-pub add_words_within-requires-clause-to : goal.add_words_within-requires-clause-to
-add_words_within-requires-clause-to c =
-    let inside = c.self.inside in
-    let to = c.place-to.ensures ∙ ap (λ (g : Grid). c.args.to * g.words) (sym c.self.view_is) in
-    let count = c.place-count.ensures ∙ ap (λ (g : Grid). c.args.count * g.words) (sym c.self.view_is) in
-    let fits = rows_fit inside.levels inside.words c.args.to c.args.count inside.bytes.items c.self.invariant.0 (subst (λ (g : Grid). c.args.to + c.args.count ≤ 2 ^ g.levels) (sym c.self.view_is) c.requires.to) in
-    let size = ap (λ (xs : List ℕ). length xs) c.as_mut_slice.ensures.value in
-    omega (arith, to, count, fits, size)
-
-pub add_words_within-requires-clause-apart : goal.add_words_within-requires-clause-apart
-add_words_within-requires-clause-apart c =
-    rw (c.place-from.ensures, c.place-to.ensures, c.place-count.ensures) (rows_apart c.args.self.now.words c.args.from c.args.to c.args.count c.requires.apart)
 
 pub returns : goal.returns
 returns c =
@@ -40,3 +18,9 @@ returns c =
 
 pub invariant_of-self : goal.invariant_of-self
 invariant_of-self c = (kept_rows c.self.inside.levels c.self.inside.words c.self.inside.bytes c.as_mut_slice.result.now c.add_words_within.new.bytes c.self.invariant.0 c.as_mut_slice.ensures.value c.add_words_within.ensures.same_length (search rules), c.self.invariant.1)
+
+pub add_words_within-requires : goal.add_words_within-requires
+add_words_within-requires c =
+    let inside = c.self.inside in
+    rw (c.place-from.ensures, c.place-to.ensures, c.place-count.ensures, c.as_mut_slice.ensures.value, ← c.self.view_is)
+    (row_runs inside.levels inside.words c.args.from c.args.to c.args.count inside.bytes.items c.self.invariant.0 (subst (λ (g : Grid). AreTwoRuns (2 ^ g.levels) c.args.from c.args.to c.args.count) (sym c.self.view_is) c.requires))

@@ -9,7 +9,7 @@ returns c =
     let new = c.copy_words.new.dst in
     let size : length new ≡ inside.bytes.len = search rules in
     let count : c.place-count.result ≡ c.args.count * inside.words = c.place-count.ensures ∙ ap (λ (g : Grid). c.args.count * g.words) (sym c.self.view_is) in
-    let same = c.requires.words ∙ ap (λ (g : Grid). g.words) (sym c.self.view_is) in
+    let same = c.requires.same.words ∙ ap (λ (g : Grid). g.words) (sym c.self.view_is) in
     let source = c.deref.ensures.value ∙ ap (λ (g : Grid). g.bytes) c.other.view_is in
     let copied : CopiesWords (c.args.count * inside.words) c.args.other.now.bytes old new =
     subst (λ n. CopiesWords n c.args.other.now.bytes old new) count

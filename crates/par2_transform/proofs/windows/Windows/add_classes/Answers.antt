@@ -1,22 +1,19 @@
 use Rattle.par2_transform.proofs.Common.{arith, ◌≡◌, subst, lists_of, cut_of}
-use Rattle.par2_transform.proofs.AddingLaws.{still_within}
+use Rattle.par2_transform.proofs.ColumnLaws.{still_fits}
 use Rattle.par2_transform.proofs.ClassLaws.{ClassesAdded, no_class, next_class, all_classes}
 use Rattle.par2_transform.proofs.windows.Windows.add_classes.Goals as goal
 
 pub loop-r-init : goal.loop-r-init
 loop-r-init c =
     let self = c.args.self.now in
-    no_class c.args.columns.now.outputs.places.now c.args.columns.now.outputs.words (cut_of self.plan) self.slices self.plan.columns self.first self.plan.block c.args.columns.now.from c.args.columns.now.to c.args.rows.now c.args.blocks.now (lists_of c.args.buffers.now) c.requires.rows c.requires.blocks
-
-pub add_class-requires-clause-room : goal.add_class-requires-clause-room
-add_class-requires-clause-room c = still_within c.args.columns.now.outputs.places.now c.args.columns.now.outputs.words c.args.columns.now.outputs.words _ (lists_of c.args.buffers.now) (lists_of c.loop-r.buffers) c.loop-r.invariant.added c.requires.room
+    no_class c.args.columns.now.outputs.places.now c.args.columns.now.outputs.words (cut_of self.plan) self.slices self.plan.columns self.first self.plan.block c.args.columns.now.from c.args.columns.now.to c.args.rows.now c.args.blocks.now (lists_of c.args.buffers.now) c.requires.ready.size c.requires.ready.cover
 
 pub loop-r-preserved : goal.loop-r-preserved
 loop-r-preserved c =
     let self = c.args.self.now in
     let e = c.add_class.ensures in
     next_class c.args.columns.now.outputs.places.now c.args.columns.now.outputs.words (cut_of self.plan) self.slices self.plan.columns self.first self.plan.block c.args.columns.now.from c.args.columns.now.to c.loop-r.r c.loop-r.rows c.add_class.new.rows c.loop-r.blocks c.add_class.new.blocks
-    (lists_of c.args.buffers.now) (lists_of c.loop-r.buffers) (lists_of c.add_class.new.buffers) c.loop-r.invariant e.rows e.blocks e.added
+    (lists_of c.args.buffers.now) (lists_of c.loop-r.buffers) (lists_of c.add_class.new.buffers) c.loop-r.invariant e.ready.size e.ready.cover e.added
 
 pub returns-clause-added : goal.returns-clause-added
 returns-clause-added c =
@@ -27,3 +24,12 @@ returns-clause-added c =
     let end : c.loop-r.r ≡ self.plan.classes = omega (arith, c.loop-r-test.false, c.loop-r.auto.r-end) in
     all_classes c.args.columns.now.outputs.places.now c.args.columns.now.outputs.words cut self.slices self.plan.columns self.first self.plan.block c.args.columns.now.from c.args.columns.now.to c.loop-r.rows c.loop-r.blocks was buffers self.few self.bytes self.reaches
     (subst (λ n. ClassesAdded c.args.columns.now.outputs.places.now c.args.columns.now.outputs.words cut self.slices self.plan.columns self.first self.plan.block c.args.columns.now.from c.args.columns.now.to n c.loop-r.rows c.loop-r.blocks was buffers) end c.loop-r.invariant)
+
+pub add_class-requires-clause-ready : goal.add_class-requires-clause-ready
+add_class-requires-clause-ready c = record { size = c.loop-r.invariant.kept; cover = c.loop-r.invariant.cover }
+
+pub add_class-requires-clause-fits : goal.add_class-requires-clause-fits
+add_class-requires-clause-fits c = still_fits c.args.self.now.plan.columns c.args.columns.now _ c.args.buffers.now c.loop-r.buffers c.loop-r.invariant.added c.requires.fits
+
+pub returns-clause-ready : goal.returns-clause-ready
+returns-clause-ready c = record { size = c.loop-r.invariant.kept; cover = c.loop-r.invariant.cover }

@@ -12,11 +12,15 @@ add_classes-requires c =
     let l = c.loop-k in
     let is = c.columns-columns.ensures in
     record {
-      rows = l.invariant.rows;
-      blocks = subst (λ (o : Places). CoverOutputs (cut_of plan) plan.columns self.first plan.block (length o.places.now) c.as_mut_slice.result.now) (sym is.outputs)
-          (subst (CoverOutputs (cut_of plan) plan.columns self.first plan.block (length c.args.outputs.now.places.now)) (sym c.as_mut_slice.ensures.value) l.invariant.cover);
-      columns = omega (arith, is.from, is.to);
-      room = columns_within c.args.outputs.now c.columns-columns.result _ (lists_of c.args.buffers.now) (lists_of l.buffers) is.outputs l.invariant.added c.requires.room;
+      ready = record {
+        size = l.invariant.rows;
+        cover = subst (λ (o : Places). CoverOutputs (cut_of plan) plan.columns self.first plan.block (length o.places.now) c.as_mut_slice.result.now) (sym is.outputs)
+            (subst (CoverOutputs (cut_of plan) plan.columns self.first plan.block (length c.args.outputs.now.places.now)) (sym c.as_mut_slice.ensures.value) l.invariant.cover);
+      };
+      fits = record {
+        narrow = omega (arith, is.from, is.to);
+        room = columns_within c.args.outputs.now c.columns-columns.result _ (lists_of c.args.buffers.now) (lists_of l.buffers) is.outputs l.invariant.added c.requires.room;
+      };
     }
 
 pub loop-k-init : goal.loop-k-init
@@ -40,9 +44,9 @@ loop-k-preserved c =
     let after = with_items_is l.blocks blocks size in
     let low = begins c.args.outputs.now.words plan.columns l.k c.div_ceil-k-end.result (let some = plan.some.1.1 in omega (arith, some)) c.div_ceil-k-end.ensures c.loop-k-test.true in
     record {
-      rows = e.rows;
+      rows = e.ready.size;
       cover = subst (CoverOutputs (cut_of plan) plan.columns self.first plan.block (length c.args.outputs.now.places.now)) (sym after)
-          (subst (λ (o : Places). CoverOutputs (cut_of plan) plan.columns self.first plan.block (length o.places.now) blocks) is.outputs e.blocks);
+          (subst (λ (o : Places). CoverOutputs (cut_of plan) plan.columns self.first plan.block (length o.places.now) blocks) is.outputs e.ready.cover);
       added = next_words c.args.outputs.now c.columns-columns.result plan.columns l.k (λ t p. recovered self.slices (self.first + t) p) (lists_of c.args.buffers.now) (lists_of l.buffers) (lists_of c.add_classes.new.buffers)
           l.invariant.added low is.outputs is.from is.to e.added;
     }

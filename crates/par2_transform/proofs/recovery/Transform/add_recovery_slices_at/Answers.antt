@@ -2,7 +2,7 @@ use Rattle.par2_transform.proofs.Common.{◌≡◌, ◌≤◌, ◌+◌, ◌-◌,
 use Rattle.par2_transform.proofs.AddingLaws.{adds_none, adds_same, still_within, within-above}
 use Rattle.par2_transform.proofs.ColumnLaws.{begins}
 use Rattle.par2_transform.proofs.GroupLaws.{group_of, length-group, group_within, adds_to_group, next_group, all_groups}
-use Rattle.par2_transform.proofs.recovery.add_recovery_slices_at.Goals as goal
+use Rattle.par2_transform.proofs.recovery.Transform.add_recovery_slices_at.Goals as goal
 
 pub overflow_mul-from : goal.overflow_mul-from
 overflow_mul-from c =
@@ -43,7 +43,6 @@ add_group-requires c =
     let count = length-group from to all order fits in
     let same = ap (λ (places : List Place). length places) c.part-group.ensures.places in
     record {
-      slices = c.requires.slices;
       exponents = omega (arith, same, count, order, fits, c.requires.exponents);
       room = subst (λ (places : List Place). LieWithin group.words places buffers) (sym c.part-group.ensures.places)
           (subst (λ (words : ℕ). LieWithin words (group_of from to all) buffers) (sym c.part-group.ensures.words)
@@ -54,7 +53,7 @@ add_group-requires c =
 pub loop-k-init : goal.loop-k-init
 loop-k-init c =
     let none = min (length c.args.outputs.now.places.now) (0 * c.outputs_at_once-at_once.result) in
-    let given = λ (t p : ℕ). recovered (byte_lists c.args.slices.now) (c.args.first + t) p in
+    let given = λ (t p : ℕ). recovered (byte_lists c.args.self.now.slices.now) (c.args.first + t) p in
     adds_none c.args.outputs.now.places.now c.args.outputs.now.words (λ t p. within 0 none t (given t p)) (lists_of c.args.buffers.now) (λ t p. within-above 0 none t (given t p) (omega arith))
 
 pub loop-k-preserved : goal.loop-k-preserved
@@ -64,7 +63,7 @@ loop-k-preserved c =
     let k = c.loop-k.k in
     let all : List Place = c.args.outputs.now.places.now in
     let words : ℕ = c.args.outputs.now.words in
-    let slices = byte_lists c.args.slices.now in
+    let slices = byte_lists c.args.self.now.slices.now in
     let first = c.args.first in
     let from = k * size in
     let to = from + c.min.result in
@@ -89,4 +88,4 @@ returns c =
     let end : k ≡ c.div_ceil-k-end.result = omega (arith, c.loop-k-test.false, c.loop-k.auto.k-end) in
     let all = c.div_ceil-k-end.ensures ∙ ap (λ (m : ℕ). div_ceil m size) c.len-count.ensures in
     let enough : total ≤ k * size = subst (λ n. total ≤ n * size) (sym (end ∙ all)) (div_ceil_times total size (omega (arith, some))).0 in
-    all_groups c.args.outputs.now.places.now c.args.outputs.now.words size total k (λ t p. recovered (byte_lists c.args.slices.now) (c.args.first + t) p) (lists_of c.args.buffers.now) (lists_of c.loop-k.buffers) enough refl c.loop-k.invariant
+    all_groups c.args.outputs.now.places.now c.args.outputs.now.words size total k (λ t p. recovered (byte_lists c.args.self.now.slices.now) (c.args.first + t) p) (lists_of c.args.buffers.now) (lists_of c.loop-k.buffers) enough refl c.loop-k.invariant

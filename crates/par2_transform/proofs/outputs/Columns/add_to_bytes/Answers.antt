@@ -1,5 +1,5 @@
 use Rattle.par2_transform.proofs.Common.{rules, ◌≡◌, ◌∙◌, length, get_or, with_items_is, with_items, list_at, lists_of, read_at, written_here, written_changed}
-use Rattle.par2_transform.proofs.outputs.add_to_bytes.Goals as goal
+use Rattle.par2_transform.proofs.outputs.Columns.add_to_bytes.Goals as goal
 
 pub returns-clause-changed : goal.returns-clause-changed
 returns-clause-changed c = written_changed c.args.buffers.now c.args.place.buffer _

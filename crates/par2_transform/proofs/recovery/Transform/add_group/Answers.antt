@@ -1,5 +1,5 @@
 use Rattle.par2_transform.proofs.Common.{◌+◌, ℕ, List, subst, arith, IfOk-weaker, lists_of, AddsAt, recovered}
-use Rattle.par2_transform.proofs.recovery.add_group.Goals as goal
+use Rattle.par2_transform.proofs.recovery.Transform.add_group.Goals as goal
 
 pub add_words-requires-clause-exponents : goal.add_words-requires-clause-exponents
 add_words-requires-clause-exponents c = omega (arith, c.in_ok-windows.ensures.first, c.requires.exponents)
