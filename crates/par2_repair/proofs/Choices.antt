@@ -1,11 +1,6 @@
--- Lists that grow item by item, and a list whose items come once.
+-- Names that come once.
 use Rattle.par2_repair.proofs.Common.{◌≡◌, ℕ, List, [], ◌∷◌, ◌++◌, refl, ap, ◌∙◌, Bool, true, false, not, cond, ◌||◌, ◌&&◌, append-nil, filter, bytes_eq, bytes_eq-Decides, filter-append, is_among, distinct, same_either_way, AreDistinct, among-filter, distinct-filter}
 use Rattle.std.proofs.Math.Bool.{and-false}
-
--- ---- each once
-
-pub filter_push : (p : List ℕ → Bool) (xs : List (List ℕ)) (x : List ℕ) → filter p (xs ++ x ∷ []) ≡ filter p xs ++ cond (p x) (x ∷ []) []
-filter_push p xs x = filter-append p xs (x ∷ [])
 
 -- one more name is added if it is new
 pub distinct_more : (xs : List (List ℕ)) (x : List ℕ) → distinct (xs ++ x ∷ []) ≡ cond (is_among xs x) (distinct xs) (distinct xs ++ x ∷ [])

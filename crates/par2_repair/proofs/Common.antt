@@ -21,14 +21,14 @@ pub use Rattle.std.specs.List.{AllByRecursion, IsDistinct, concat, cons_option, 
 pub use Rattle.std.specs.List.Sorted.{IsStrictlyIncreasing}
 pub use Rattle.std.specs.Option.{option_and_then}
 pub use Rattle.std.specs.Ordering.{eq_by_cmp, nat_cmp}
-pub use Rattle.std.specs.Prelude.{IfErr, IfOk, IfSome, None, OnOk, Option, Result, Some, String, filter, filter_map, flat_map, is_none, is_ok, is_some, ok_or, option_map, position, replicate, slice_get, vec_len, zip}
+pub use Rattle.std.specs.Prelude.{IfErr, IfOk, IfSome, None, OnOk, Option, Result, Some, String, filter, filter_map, flat_map, is_none, is_ok, is_some, ok_or, option_map, position, replicate, slice_get, unwrap_or, vec_len, zip}
 pub use Rattle.std.specs.Str.{bytes_eq}
 pub use Rattle.std.specs.Vec.Iter.{into_iter_items, into_iter_len}
 pub use Rattle.par2_files.specs.ChangeViews.{change_of}
-pub use Rattle.par2_repair.specs.Drafts.{HasItsMd5s, IsDraft, IsDraftBy, has_digest, wrong_digest}
-pub use Rattle.par2_repair.specs.Findings.{HoldsMatches, is_sought, numbers_of_lost, pair_cmp, pairs_sought, report_by, said_of}
-pub use Rattle.par2_repair.specs.Repairing.{AreRestored, HoldsAsides, IsAsDescribed, IsWholeWhereMatched, WritesAsDescribed, files_removed, known_by, matches_taken, names_there, place_by, repair_by, writes}
-pub use Rattle.par2_repair.specs.Restoring.{chosen_at, known_in, md5s_of, target_at, targets_among, undetermined_fault}
+pub use Rattle.par2_repair.specs.Drafts.{HasItsMd5s, IsDraft, IsDraftBy, wrong_digest}
+pub use Rattle.par2_repair.specs.Findings.{HoldsMatches, numbers_of_lost, pair_cmp, pairs_sought, report_by, said_of}
+pub use Rattle.par2_repair.specs.Repairing.{AreRestored, HasAsides, IsAsDescribed, IsWholeWhereMatched, WritesAsDescribed, known_by, matches_taken, names_there, place_in, removed, renamed, repair_by, writes}
+pub use Rattle.par2_repair.specs.Restoring.{chosen_at, known_in, md5s_of, targets_among, undetermined_fault}
 pub use Rattle.par2_repair.specs.SliceBytes.{slices_of, slice_bytes, windows_and_buffers}
 pub use Rattle.par2_repair.specs.ReportViews.{state_view, target_report_of}
 pub use Rattle.par2_repair.specs.Written.{bytes_written, buffers_written}
@@ -45,7 +45,7 @@ pub use Rattle.par2_spec.proofs.NamesLaws.{AreDistinct, among-filter, among_some
 pub use Rattle.par2_spec.proofs.PassedAnswers.{answered_so, err_passed, never_found, passed, refused_by}
 pub use Rattle.par2_spec.proofs.ReadLaws.{lost_of, present_searched, size_positive, sized_from_counted, sound_of}
 pub use Rattle.par2_spec.proofs.SessionLaws.{ok_no_err, same_ok}
-pub use Rattle.par2_spec.proofs.TestLaws.{err_again, no_place}
+pub use Rattle.par2_spec.proofs.TestLaws.{at_none, err_again}
 pub use Rattle.par2_spec.proofs.TreeLaws.{holds_more}
 pub use Rattle.par2_spec.proofs.VerdictLaws.{refused_as_reported, verdict_by_words}
 pub use Rattle.par2_spec.specs.Changes.{Change, Remove, Rename, Write, are_applicable, effects}
@@ -58,8 +58,8 @@ pub use Rattle.par2_spec.specs.Names.{distinct, is_among, is_name, is_par_name}
 pub use Rattle.par2_spec.specs.Plans.{AreFewFor, LeadsToAfter, now_at, purge_changes}
 unfoldable pub use Rattle.par2_spec.specs.Plans.{changes_of, repair_changes, repair_removals}
 pub use Rattle.par2_spec.specs.Rank.{IsRebuilt, IsRepairable, is_repairable, kept_slices, rank}
-pub use Rattle.par2_spec.specs.Refusals.{absent_file, after, by_set, purge_refusal, set_in}
-unfoldable pub use Rattle.par2_spec.specs.Refusals.{early_refusal, refusal, repair_refusal}
+pub use Rattle.par2_spec.specs.Refusals.{absent_file, after, by_set, purge_refusal}
+unfoldable pub use Rattle.par2_spec.specs.Refusals.{early_refusal, refusal, repair_refusal, set_in}
 pub use Rattle.par2_spec.specs.Repairs.{AreFew, aside, cut_into, files_of_slices, is_par_file, names_without_match, par_files, put_aside, rebuilt}
 unfoldable pub use Rattle.par2_spec.specs.Repairs.{rebuilt_targets}
 pub use Rattle.par2_spec.specs.Reports.{Complete, IsVerdictIn, Report, TargetReport, is_complete, incomplete_state, verdict_of}

@@ -1,5 +1,5 @@
 -- A draft of a repair, by the targets that it writes.
-use Rattle.par2_repair.proofs.Common.{◌≡◌, ◌∙◌, ℕ, List, [], ◌∷◌, ◌++◌, length, map, drop, get_or, refl, sym, ap, ap₂, subst, Bool, true, false, not, Ok, append-nil, Option, filter, filter_map, option_map, None, Some, AllByRecursion, cons_option, list_all, and_from, and_parts, false_from_ne_true, filter_map-append, bytes_eq-Decides, Change, Write, Rename, Remove, are_applicable, effects, Repair, fault_where, Folder, is_among, changes_of, now_at, repair_changes, repair_removals, set_in, refusal, aside, put_aside, rebuilt_targets, par_files, AreFew, candidates, matches, matching, ParSet, Target, RepairFailed, set_in_reads, same_ok, md5s_of, HasItsMd5s, IsDraft, IsDraftBy, has_digest, IsAsDescribed, repair_by, bytes_written, buffers_written, IsTrue}
+use Rattle.par2_repair.proofs.Common.{◌≡◌, ◌∙◌, ℕ, List, [], ◌∷◌, ◌++◌, length, map, drop, get_or, refl, sym, ap, ap₂, subst, Bool, true, false, not, Ok, append-nil, Option, filter, filter_map, option_map, None, Some, AllByRecursion, cons_option, list_all, and_from, and_parts, false_from_ne_true, filter_map-append, bytes_eq-Decides, Change, Write, Rename, Remove, are_applicable, effects, Repair, fault_where, Folder, is_among, changes_of, now_at, repair_changes, repair_removals, set_in, refusal, aside, put_aside, rebuilt_targets, par_files, AreFew, candidates, matches, matching, ParSet, Target, RepairFailed, set_in_reads, same_ok, md5s_of, HasItsMd5s, IsDraft, IsDraftBy, bytes_eq, IsAsDescribed, repair_by, bytes_written, buffers_written, IsTrue}
 use Rattle.md5.specs.Md5.{md5}
 use Rattle.par2_repair.specs.declared.draft.Draft.{Draft}
 use Rattle.par2_repair.proofs.PlanParts.{repair_refused, repair_leads}
@@ -49,6 +49,10 @@ module _ (folder : Folder) (set : ParSet) (searched : List (List ℕ)) where
       ∙ ap₂ (λ (a b : List (List ℕ)). a ++ b) changes_write removals_write ∙ append-nil (map (λ (c : Target × List ℕ). c.1) (rebuilt_targets folder set searched))
 
 -- ---- MD5s
+
+-- the bytes have the MD5 that the target describes
+abbrev has_digest : Target × List ℕ → Bool
+has_digest c = bytes_eq (md5 c.1) c.0.md5
 
 -- the bytes have the MD5s that the targets describe
 abbrev HaveMd5s : List (Target × List ℕ) → Type 0

@@ -5,7 +5,6 @@ mod Choices
 mod Drafts
 mod MatchNumbers
 mod SliceLists
-mod Pairs
 mod PlanParts
 mod Present
 mod RepairParts

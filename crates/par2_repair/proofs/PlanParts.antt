@@ -1,20 +1,16 @@
 -- A repair and a purge by the set that they read.
-use Rattle.par2_repair.proofs.Common.{◌≡◌, ◌∙◌, ℕ, List, [], refl, sym, ap, subst, Bool, Ok, Err, Verify, Repair, Purge, then_fault, Folder, purge_changes, LeadsToAfter, changes_of, absent_file, set_in, repair_refusal, purge_refusal, by_set, early_refusal, refusal, AreFew, candidates, ParSet, Fault, command_leads, set_in_reads, same_ok, IsWholeWhereMatched, repair_by, Some}
+use Rattle.par2_repair.proofs.Common.{◌≡◌, ◌∙◌, ℕ, List, [], refl, sym, ap, subst, Bool, Ok, Err, Verify, Repair, Purge, then_fault, Folder, purge_changes, LeadsToAfter, changes_of, set_in, repair_refusal, purge_refusal, by_set, early_refusal, refusal, AreFew, candidates, ParSet, Fault, command_leads, set_in_reads, same_ok, IsWholeWhereMatched, repair_by, Some}
 use Rattle.par2_repair.proofs.RepairParts.{whole_where_matched}
 
 -- ---- early refusals
 
-pub early_verify : (folder : Folder) (base : List ℕ) (extras : List (List ℕ)) → early_refusal folder (Verify base extras) ≡ absent_file folder base extras
+pub repair_as_verify : (folder : Folder) (base : List ℕ) (extras : List (List ℕ)) (purge : Bool) → early_refusal folder (Verify base extras) ≡ early_refusal folder (Repair base extras purge)
 unfolding early_refusal
-early_verify folder base extras = refl
+repair_as_verify folder base extras purge = refl
 
-pub early_repair : (folder : Folder) (base : List ℕ) (extras : List (List ℕ)) (purge : Bool) → early_refusal folder (Repair base extras purge) ≡ absent_file folder base extras
+pub purge_as_verify : (folder : Folder) (base : List ℕ) → early_refusal folder (Verify base []) ≡ early_refusal folder (Purge base)
 unfolding early_refusal
-early_repair folder base extras purge = refl
-
-pub early_purge : (folder : Folder) (base : List ℕ) → early_refusal folder (Purge base) ≡ absent_file folder base []
-unfolding early_refusal
-early_purge folder base = refl
+purge_as_verify folder base = refl
 
 module _ (folder : Folder) (base : List ℕ) (extras : List (List ℕ)) (purge : Bool) where
   pub repair_unread : (fault : Fault) → set_in folder base extras ≡ Err fault → refusal folder (Repair base extras purge) ≡ Some fault

@@ -1,5 +1,5 @@
 -- The base and the extras that are in the folder.
-use Rattle.par2_repair.proofs.Common.{◌≡◌, ℕ, ◌+◌, List, [], ◌∷◌, refl, sym, ap, ap₂, ◌∙◌, Bool, true, false, not, cond, arith, not-false, filter, option_map, None, Some, position_from, AllByRecursion, NoSuchFile, Folder, has, set_of, absent_file, set_in, missing, in_full, in_part, position_from-zero, no_place, Err}
+use Rattle.par2_repair.proofs.Common.{◌≡◌, ℕ, ◌+◌, List, [], ◌∷◌, refl, sym, ap, ap₂, ◌∙◌, Bool, true, false, not, cond, arith, not-false, filter, option_map, None, Some, position_from, AllByRecursion, NoSuchFile, Folder, has, set_of, absent_file, set_in, missing, position_from-zero, at_none, Err, Fault, Verify, early_refusal, never_found}
 
 -- ---- the first word that is absent
 
@@ -35,24 +35,24 @@ module _ (folder : Folder) (base : List ℕ) (extras : List (List ℕ)) where
     pub none_absent : missing folder extras ≡ None → absent_file folder base extras ≡ None
     none_absent e = ap (option_map (λ k. NoSuchFile (0 + k))) (missing_behind folder base extras there ∙ ap (option_map (λ k. 1 + k)) e)
 
-    pub extra_refused : (k : ℕ) → missing folder extras ≡ Some k → set_in folder base extras ≡ Err (NoSuchFile (k + 1))
-    extra_refused k e =
-        in_part folder base extras (1 + k) (missing_behind folder base extras there ∙ ap (option_map (λ k. 1 + k)) e)
-        ∙ ap (λ n. Err (NoSuchFile n)) (let n : 0 + (1 + k) ≡ k + 1 = omega arith in n)
+  -- an absent file is why no set is read
+  pub unread : (fault : Fault) → absent_file folder base extras ≡ Some fault → set_in folder base extras ≡ Err fault
+  unread fault e = unfold set_in in rw e refl
 
-  pub base_absent : has folder base ≡ false → set_in folder base extras ≡ Err (NoSuchFile 0)
-  base_absent gone =
-      let test = λ (word : List ℕ). not (has folder word) in
-      in_part folder base extras 0 (position_from-zero test (base ∷ extras) ∙ ap (λ b. cond (not b) (Some 0) (position_from test 1 extras)) gone)
+  -- if no file is absent, the set is that of the base
+  pub all_present : absent_file folder base extras ≡ None → set_in folder base extras ≡ set_of folder base
+  all_present e = unfold set_in in rw e refl
 
-  module _ (there : has folder base ≡ true) where
-    -- if no word is absent, the set is that of the base
-    pub all_present : missing folder extras ≡ None → set_in folder base extras ≡ set_of folder base
-    all_present e = in_full folder base extras (missing_behind folder base extras there ∙ ap (option_map (λ k. 1 + k)) e)
+  pub is_early : early_refusal folder (Verify base extras) ≡ absent_file folder base extras
+  unfolding early_refusal
+  is_early = refl
 
--- if no word is absent, each is a file's name
-pub all_there : (folder : Folder) (words : List (List ℕ)) → missing folder words ≡ None → filter (has folder) words ≡ words
-all_there folder words e = kept words (no_place (λ word. not (has folder word)) 0 words (sym (position_from-zero (λ word. not (has folder word)) words) ∙ e))
+  pub not_early : absent_file folder base extras ≡ None → (fault : Fault) → early_refusal folder (Verify base extras) ≡ Some fault → ⊥
+  not_early none fault early = never_found _ fault none (sym is_early ∙ early)
+
+-- if no file is absent, each extra word is a file's name
+pub all_there : (folder : Folder) (base : List ℕ) (words : List (List ℕ)) → absent_file folder base words ≡ None → filter (has folder) words ≡ words
+all_there folder base words e = kept words (at_none 0 NoSuchFile (λ word. not (has folder word)) (base ∷ words) e).1
   where
     kept : (words : List (List ℕ)) → AllByRecursion (λ word. not (has folder word) ≡ false) words → filter (has folder) words ≡ words
     kept [] h = refl

@@ -1,5 +1,6 @@
 -- The parts of a repair are those of the definitions.
-use Rattle.par2_repair.proofs.Common.{◌≡◌, ◌⊎◌, inl, inr, subst, ℕ, List, [], ◌∷◌, ◌++◌, length, map, refl, sym, ap, ap₂, ◌∙◌, Bool, true, false, not, cond, ◌&&◌, ◌||◌, ◌+◌, suc, arith, Ok, ◌==◌, Option, is_none, filter, filter_map, flat_map, None, Some, AllByRecursion, enumerate_from, list_any, bytes_eq, ne_eqb, or_right, and_parts, not-true, false_from_ne_true, is_incomplete, matching, matches, lost, survivors, candidates, incomplete_names, known, is_par_name, is_among, map-map, Change, Rename, Remove, Pair, first_fault, fault_where, Folder, bytes_of, has, now_at, repair_changes, repair_removals, is_repairable, rank, aside, put_aside, names_without_match, rebuilt, par_files, files_of_slices, is_par_file, rebuilt_targets, ParSet, Target, set_of, found, Fault, NotRepairable, all-append, filter-map, all-each, all-filter, lost_of, long_aside, undetermined_fault, targets_among, wrong_digest, AreRestored, IsWholeWhereMatched, matches_taken, writes, files_removed, place_by, known_by, itself, among-filter, among_some, clash, repair_refusal}
+use Rattle.par2_repair.proofs.Common.{◌≡◌, ◌⊎◌, inl, inr, subst, ℕ, List, [], ◌∷◌, ◌++◌, length, map, refl, sym, ap, ap₂, ◌∙◌, Bool, true, false, not, cond, ◌&&◌, ◌||◌, ◌+◌, suc, arith, Ok, ◌==◌, Option, is_none, filter, filter_map, flat_map, None, Some, AllByRecursion, enumerate_from, list_any, bytes_eq, ne_eqb, or_right, and_parts, not-true, false_from_ne_true, is_incomplete, matching, matches, lost, survivors, candidates, incomplete_names, known, is_par_name, is_among, map-map, Change, Rename, Remove, Pair, first_fault, fault_where, Folder, bytes_of, has, now_at, repair_changes, repair_removals, is_repairable, rank, aside, put_aside, names_without_match, rebuilt, par_files, files_of_slices, is_par_file, rebuilt_targets, ParSet, Target, set_of, found, Fault, NotRepairable, all-append, filter-map, all-each, all-filter, lost_of, long_aside, undetermined_fault, targets_among, wrong_digest, AreRestored, IsWholeWhereMatched, matches_taken, writes, removed, renamed, place_in, BTreeMap, BTreeSet, contains, slice_cmp, nat_cmp, option_map, known_by, itself, among-filter, among_some, clash, repair_refusal}
+use Rattle.par2_sets.specs.Asides.{HoldsOwned}
 use Rattle.par2_spec.specs.Packets.{accepted}
 use Rattle.par2_spec.specs.Folders.{names as names_in}
 use Rattle.par2_spec.proofs.RankLaws.{repairable-iff}
@@ -9,6 +10,10 @@ abbrev Pairs : Type 0
 Pairs = List (Target × Option (List ℕ))
 
 -- ---- files that are put aside have their asides as names
+
+-- the name of a file once the files of these names are put aside
+abbrev place_by : (List ℕ → List ℕ) → List (List ℕ) → List ℕ → List ℕ
+place_by aside names name = cond (is_among names name) (aside name) name
 
 own_places : (aside : List ℕ → List ℕ) (all : List (List ℕ)) (change : List ℕ → List ℕ → Change) (names : List (List ℕ)) → AllByRecursion (λ n. is_among all n ≡ true) names
     → map (λ n. change n (place_by aside all n)) names ≡ map (λ n. change n (aside n)) names
@@ -131,16 +136,6 @@ module _ (folder : Folder) (set : ParSet) (searched : List (List ℕ)) where
 
   -- ---- changes
 
-  pub changes_are : (incomplete : Pairs) (names : List (List ℕ)) (targets : List (Target × List ℕ)) → incomplete ≡ ms → names ≡ put_aside folder set → targets ≡ rebuilt_targets folder set searched
-      → map (λ n. Rename n (now_at folder set n)) names ++ matches_taken (now_at folder set) incomplete ++ writes targets ≡ repair_changes folder set searched
-  unfolding repair_changes
-  changes_are incomplete names targets of_incomplete of_names of_targets =
-      ap₂ (λ (a b : List Change). a ++ b)
-      (ap₂ (λ (a b : List Change). a ++ b)
-      (ap (map (λ n. Rename n (now_at folder set n))) of_names ∙ own_places (aside folder set) (put_aside folder set) Rename (put_aside folder set) (all_own (put_aside folder set) (put_aside folder set) (λ q h. h)))
-      (ap (matches_taken (now_at folder set)) of_incomplete))
-      (ap writes of_targets)
-
   -- a PAR2 file is no target, so it isn't put aside
   par_file_stays : (n : List ℕ) → is_par_file folder set n ≡ true → is_among (put_aside folder set) n ≡ false
   par_file_stays n e =
@@ -149,18 +144,41 @@ module _ (folder : Folder) (set : ParSet) (searched : List (List ℕ)) where
       let other = not-true (is_among targets n) (and_parts (is_par_name n) _ (and_parts (is_par_name n && not (is_among targets n)) _ some).0).1 in
       false_from_ne_true _ (λ h. clash (among_some (λ (t : Target). t.name) (is_incomplete folder set) set.targets n (and_parts _ _ (sym (among-filter (has folder) (incomplete_names folder set) n) ∙ h)).0) other)
 
-  pub removals_are : (incomplete : Pairs) (names files : List (List ℕ)) → incomplete ≡ ms → names ≡ put_aside folder set → files ≡ par_files folder set
-      → files_removed (now_at folder set) (filter_map (λ m. m.1) incomplete) names ++ files_removed (now_at folder set) (filter_map (λ m. m.1) incomplete) files ≡ repair_removals folder set searched
-  unfolding repair_removals
-  removals_are incomplete names files of_incomplete of_names of_files =
-      let free = λ (n : List ℕ). not (is_among (matching folder set searched) n) in
-      ap₂ (λ (ms : Pairs) (ns : List (List ℕ)). files_removed (now_at folder set) (filter_map (λ m. m.1) ms) ns ++ files_removed (now_at folder set) (filter_map (λ m. m.1) ms) files) of_incomplete of_names
-      ∙ ap₂ (λ (a b : List Change). a ++ b)
-      (own_places (aside folder set) (put_aside folder set) (λ n other. Remove other) (filter free (put_aside folder set))
-      (all-filter (λ n. is_among (put_aside folder set) n ≡ true) free (put_aside folder set) (all_own (put_aside folder set) (put_aside folder set) (λ q h. h))))
-      (ap (files_removed (now_at folder set) (matching folder set searched)) of_files
-      ∙ old_places (aside folder set) (put_aside folder set) Remove (filter free (par_files folder set))
-      (all-filter (λ n. is_among (put_aside folder set) n ≡ false) free (par_files folder set) (all_passing (λ n. is_among (put_aside folder set) n ≡ false) (is_par_file folder set) par_file_stays (names_in folder))))
+  module _ (asides : BTreeMap (List ℕ) (List ℕ)) (held : (name : List ℕ) → place_in asides name ≡ now_at folder set name) where
+    -- each name leads where the definitions say
+    places : ◌≡◌ {A = List ℕ → List ℕ} (place_in asides) (now_at folder set)
+    places = λ i name. held name i
+
+    pub changes_are : (incomplete : Pairs) (names : List (List ℕ)) (targets : List (Target × List ℕ)) → incomplete ≡ ms → names ≡ put_aside folder set → targets ≡ rebuilt_targets folder set searched
+        → renamed asides names ++ matches_taken asides incomplete ++ writes targets ≡ repair_changes folder set searched
+    unfolding repair_changes
+    changes_are incomplete names targets of_incomplete of_names of_targets =
+        ap₂ (λ (a b : List Change). a ++ b)
+        (ap₂ (λ (a b : List Change). a ++ b)
+        (ap₂ (λ (place : List ℕ → List ℕ) (ns : List (List ℕ)). map (λ n. Rename n (place n)) ns) places of_names
+        ∙ own_places (aside folder set) (put_aside folder set) Rename (put_aside folder set) (all_own (put_aside folder set) (put_aside folder set) (λ q h. h)))
+        (ap₂ (λ (place : List ℕ → List ℕ) (us : Pairs). filter_map (λ m. option_map (λ name. Rename (place name) m.0.name) m.1) us) places of_incomplete))
+        (ap writes of_targets)
+
+    -- the files of these names that aren't matches are removed, by the names that they have by then
+    abbrev removals : (List ℕ → List ℕ) → (List ℕ → Bool) → List (List ℕ) → List Change
+    removals place is_match names = map (λ name. Remove (place name)) (filter (λ name. not (is_match name)) names)
+
+    pub removals_are : (tree : BTreeSet (List ℕ)) (incomplete : Pairs) (names files : List (List ℕ))
+        → HoldsOwned tree (filter_map (λ m. m.1) incomplete) → incomplete ≡ ms → names ≡ put_aside folder set → files ≡ par_files folder set
+        → removed asides tree names ++ removed asides tree files ≡ repair_removals folder set searched
+    unfolding repair_removals
+    removals_are tree incomplete names files of_tree of_incomplete of_names of_files =
+        let free = λ (n : List ℕ). not (is_among (matching folder set searched) n) in
+        let tests : ◌≡◌ {A = List ℕ → Bool} (contains (slice_cmp nat_cmp) tree) (is_among (matching folder set searched)) = λ i n. (of_tree n ∙ ap (λ (us : Pairs). is_among (filter_map (λ m. m.1) us) n) of_incomplete) i in
+        let all : (ns : List (List ℕ)) → removed asides tree ns ≡ removals (now_at folder set) (is_among (matching folder set searched)) ns = λ ns. ap₂ (λ (place : List ℕ → List ℕ) (test : List ℕ → Bool). removals place test ns) places tests in
+        ap₂ (λ (a b : List Change). a ++ b)
+        (all names ∙ ap (removals (now_at folder set) (is_among (matching folder set searched))) of_names
+        ∙ own_places (aside folder set) (put_aside folder set) (λ n other. Remove other) (filter free (put_aside folder set))
+        (all-filter (λ n. is_among (put_aside folder set) n ≡ true) free (put_aside folder set) (all_own (put_aside folder set) (put_aside folder set) (λ q h. h))))
+        (all files ∙ ap (removals (now_at folder set) (is_among (matching folder set searched))) of_files
+        ∙ old_places (aside folder set) (put_aside folder set) Remove (filter free (par_files folder set))
+        (all-filter (λ n. is_among (put_aside folder set) n ≡ false) free (par_files folder set) (all_passing (λ n. is_among (put_aside folder set) n ≡ false) (is_par_file folder set) par_file_stays (names_in folder))))
 
   pub put_aside_in : (incomplete : Pairs) → incomplete ≡ ms → map (λ m. m.0.name) (filter (λ m. has folder m.0.name) incomplete) ≡ put_aside folder set
   put_aside_in incomplete e =

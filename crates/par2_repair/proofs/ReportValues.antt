@@ -1,5 +1,5 @@
 -- A report by what is found is that of the definitions.
-use Rattle.par2_repair.proofs.Common.{◌≡◌, ◌<◌, ◌≤◌, ℕ, suc, arith, ◌+◌, ◌||◌, List, [], ◌∷◌, length, map, refl, sym, ap, ap₂, ◌∙◌, Bool, true, false, not, cond, false_from_ne_true, Option, is_none, is_some, filter, option_map, option_and_then, None, Some, enumerate_from, list_any, AllByRecursion, length-map, bytes_eq, subst, IsDistinct, is_among, eq_by_cmp, slice_cmp, nat_cmp, BTreeMap, AreDistinct, among_some, clash, distinct_from_std, std_from_distinct, itself, same_either_way, Fault, Pair, found, rank, Folder, bytes_of, has, ParSet, Target, all_pairs, is_incomplete, matches, lost, survivors, candidates, known, set_in, Complete, Report, TargetReport, incomplete_state, report_of_target, report_of, report_in, set_in_reads, sound_of, present_searched, size_positive, sized_from_counted, targets_found, HoldsMatches, is_sought, numbers_of_lost, pair_cmp, pairs_sought, report_by, said_of, Ok, Err}
+use Rattle.par2_repair.proofs.Common.{◌≡◌, ◌<◌, ◌≤◌, ℕ, suc, arith, ◌+◌, ◌||◌, List, [], ◌∷◌, length, map, refl, sym, ap, ap₂, ◌∙◌, Bool, true, false, not, cond, false_from_ne_true, Option, is_none, is_some, filter, option_map, option_and_then, None, Some, enumerate_from, list_any, AllByRecursion, length-map, bytes_eq, subst, IsDistinct, is_among, eq_by_cmp, slice_cmp, nat_cmp, BTreeMap, AreDistinct, among_some, clash, distinct_from_std, std_from_distinct, itself, same_either_way, Fault, Pair, found, rank, Folder, bytes_of, has, ParSet, Target, all_pairs, is_incomplete, matches, lost, survivors, candidates, known, set_in, Complete, Report, TargetReport, incomplete_state, report_of_target, report_of, report_in, set_in_reads, sound_of, present_searched, size_positive, sized_from_counted, targets_found, HoldsMatches, names_without_match, numbers_of_lost, pair_cmp, pairs_sought, report_by, said_of, Ok, Err}
 use Rattle.std.proofs.lemmas.Bool.{or_parts}
 use Rattle.std.specs.BTreeMap.{get}
 use Rattle.std.specs.Option.{option_map_or}
@@ -48,6 +48,10 @@ found_count f is_lost (pair ∷ pairs) h = step (is_lost pair) (f pair) h.0 _ _ 
     step false (Some slice) e xs ys h = ap suc h
 
 -- ---- target by target
+
+-- the slices of a target are searched for: it is incomplete and has no match
+abbrev pub is_sought : Folder → ParSet → List (List ℕ) → Target → Bool
+is_sought folder set searched t = is_among (names_without_match (matches folder set searched)) t.name
 
 found_there : (ms : List (Target × Option (List ℕ))) (q : List ℕ) → is_some (find (λ m. bytes_eq m.0.name q) ms) ≡ is_among (map (λ m. m.0.name) ms) q
 found_there [] q = refl

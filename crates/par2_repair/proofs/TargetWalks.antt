@@ -1,5 +1,5 @@
 -- The targets one after the other, cut out of the slices that are left.
-use Rattle.par2_repair.proofs.Common.{◌≡◌, ◌∙◌, ℕ, ◌+◌, List, [], ◌∷◌, ◌++◌, length, map, take, drop, refl, sym, ap, Bool, true, false, cond, filter, zip, concat, drop-drop, is_among, cut_into, Target, target_at, chosen_at, append_assoc}
+use Rattle.par2_repair.proofs.Common.{◌≡◌, ◌∙◌, ℕ, ◌+◌, List, [], ◌∷◌, ◌++◌, length, map, take, drop, refl, sym, ap, Bool, true, false, cond, filter, zip, concat, drop-drop, is_among, cut_into, Target, chosen_at, append_assoc}
 
 abbrev pub walked : List Target → List (List ℕ) → List (Target × List ℕ)
 walked ts slices = map (λ z. (z.0, take z.0.length (concat z.1))) (zip ts (cut_into (map (λ t. length t.pairs) ts) slices))
@@ -16,7 +16,7 @@ among-cons names t ts slices first =
     ∙ before (is_among names t.name) (among names ts (drop (first + length t.pairs) slices))
   where
     here : Target × List ℕ
-    here = target_at slices first t
+    here = (t, take t.length (concat (take (length t.pairs) (drop first slices))))
 
     before : (b : Bool) (rest : List (Target × List ℕ)) → cond b (here ∷ rest) rest ≡ cond b (here ∷ []) [] ++ rest
     before true rest = refl

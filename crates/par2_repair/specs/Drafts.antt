@@ -38,13 +38,9 @@ pub record IsDraft (folder : Folder) (base : List ℕ) (extras : List (List ℕ)
 
 -- ---- by a set, and by the names that are searched
 
--- the bytes have the MD5 that the target describes
-abbrev pub has_digest : Target × List ℕ → Bool
-has_digest c = bytes_eq (md5 c.1) c.0.md5
-
 -- the refusal if a file has another MD5 than its target describes
 abbrev pub wrong_digest : List (Target × List ℕ) → Option Fault
-wrong_digest targets = fault_where (not (list_all has_digest targets)) RepairFailed
+wrong_digest targets = fault_where (not (list_all (λ c. bytes_eq (md5 c.1) c.0.md5) targets)) RepairFailed
 
 -- the draft of a repair of a set, by the names that are searched: its only cause of refusal left is a wrong MD5
 pub record IsDraftBy (purge : Bool) (folder : Folder) (set : ParSet) (searched : List (List ℕ)) (draft : Draft) : Type 0 where

@@ -1,5 +1,5 @@
 -- Findings on a set.
-use Rattle.std.specs.Prelude.{◌≡◌, ℕ, Bool, List, length, map, flat_map, filter, find, not, Option, option_map, Ok}
+use Rattle.std.specs.Prelude.{◌≡◌, ℕ, Bool, List, length, map, flat_map, filter, find, not, Option, option_map}
 use Rattle.std.specs.BTreeMap.{BTreeMap, get}
 use Rattle.std.specs.BTreeSet.{BTreeSet, contains}
 use Rattle.std.specs.Cmp.Lexicographic.{slice_cmp}
@@ -10,17 +10,10 @@ use Rattle.std.specs.Str.{bytes_eq}
 use Rattle.std.specs.declared.cmp.Ordering.{Ordering}
 use Rattle.par2_spec.specs.Checksums.{Pair}
 use Rattle.par2_spec.specs.Folders.{Folder, has}
-use Rattle.par2_spec.specs.Names.{is_among}
 use Rattle.par2_spec.specs.Rank.{rank}
-use Rattle.par2_spec.specs.Refusals.{set_in}
-use Rattle.par2_spec.specs.Repairs.{names_without_match}
 use Rattle.par2_spec.specs.Reports.{Complete, Report, TargetReport, incomplete_state}
-use Rattle.par2_spec.specs.Search.{matches, survivors}
+use Rattle.par2_spec.specs.Search.{survivors}
 use Rattle.par2_spec.specs.Sets.{all_pairs, ParSet, Target}
-
--- the slices of a target are searched for: it is incomplete and has no match
-abbrev pub is_sought : Folder → ParSet → List (List ℕ) → Target → Bool
-is_sought folder set searched t = is_among (names_without_match (matches folder set searched)) t.name
 
 -- the slice checksums of those targets whose slices are searched for, in order
 abbrev pub pairs_sought : (Target → Bool) → List Target → List Pair
@@ -33,10 +26,6 @@ pair_cmp a b = ordering_then (slice_cmp nat_cmp a.0 b.0) (nat_cmp a.1 b.1)
 -- a tree holds exactly these checksums
 abbrev pub HoldsPairs : BTreeSet Pair → List Pair → Type 0
 HoldsPairs tree pairs = (pair : Pair) → contains pair_cmp tree pair ≡ list_any (eq_by_cmp pair_cmp pair) pairs
-
--- the set is read from some base, with these extras
-abbrev pub IsRead : Folder → ParSet → List (List ℕ) → Type 0
-IsRead folder set extras = (base : List ℕ) × (set_in folder base extras ≡ Ok set)
 
 -- a map holds the matches of incomplete targets by their names
 abbrev pub HoldsMatches : List (Target × Option (List ℕ)) → BTreeMap (List ℕ) (Option (List ℕ)) → Type 0

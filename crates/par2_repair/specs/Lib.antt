@@ -6,3 +6,4 @@ pub mod SliceBytes
 pub mod Survivors
 pub mod ReportViews
 pub mod Written
+pub mod Words

@@ -1,6 +1,7 @@
 -- The parts of a repair.
-use Rattle.std.specs.Prelude.{◌≡◌, ◌⊎◌, ℕ, ◌++◌, Bool, not, List, [], length, map, filter, filter_map, Option, Some, None, option_map, Ok, if◌then◌else◌}
+use Rattle.std.specs.Prelude.{◌≡◌, ◌⊎◌, ℕ, ◌++◌, Bool, not, List, [], length, map, filter, filter_map, Option, Some, None, option_map, unwrap_or, Ok, if◌then◌else◌}
 use Rattle.std.specs.BTreeMap.{BTreeMap, get}
+use Rattle.std.specs.BTreeSet.{BTreeSet, contains}
 use Rattle.std.specs.Cmp.Lexicographic.{slice_cmp}
 use Rattle.std.specs.List.{AllByRecursion}
 use Rattle.std.specs.Ordering.{nat_cmp}
@@ -8,9 +9,9 @@ use Rattle.md5.specs.Md5.{md5}
 use Rattle.par2_spec.specs.Changes.{Change, Write, Rename, Remove}
 use Rattle.par2_spec.specs.Folders.{Folder, bytes_of, has}
 use Rattle.par2_spec.specs.Names.{is_among}
-use Rattle.par2_spec.specs.Plans.{repair_changes, repair_removals}
+use Rattle.par2_spec.specs.Plans.{now_at, repair_changes, repair_removals}
 use Rattle.par2_spec.specs.Refusals.{set_in}
-use Rattle.par2_spec.specs.Repairs.{aside, names_without_match, put_aside, rebuilt, rebuilt_targets}
+use Rattle.par2_spec.specs.Repairs.{names_without_match, put_aside, rebuilt, rebuilt_targets}
 use Rattle.par2_spec.specs.Search.{known, lost}
 use Rattle.par2_spec.specs.Search as search
 use Rattle.par2_spec.specs.Sets.{ParSet, Target}
@@ -46,26 +47,32 @@ WritesAsDescribed folder base extras =
 
 -- ---- changes
 
--- each match is renamed to the name of its target, from `place name`, the name that it has by then
-abbrev pub matches_taken : (List ℕ → List ℕ) → List (Target × Option (List ℕ)) → List Change
-matches_taken place ms = filter_map (λ m. option_map (λ name. Rename (place name) m.0.name) m.1) ms
+-- the name of a file once files are put aside: its aside, if it has one, and otherwise its own name
+abbrev pub place_in : BTreeMap (List ℕ) (List ℕ) → List ℕ → List ℕ
+place_in asides name = unwrap_or (get (slice_cmp nat_cmp) asides name) name
+
+-- a map has these asides, each by the name before it
+abbrev pub HasAsides : List (List ℕ) → List (List ℕ) → BTreeMap (List ℕ) (List ℕ) → Type 0
+HasAsides names asides map_of =
+    (aside : List ℕ → List ℕ) → asides ≡ map aside names
+    → (name : List ℕ) → place_in map_of name ≡ (if is_among names name then aside name else name)
+
+-- files are put aside
+abbrev pub renamed : BTreeMap (List ℕ) (List ℕ) → List (List ℕ) → List Change
+renamed asides names = map (λ name. Rename name (place_in asides name)) names
+
+-- each match is renamed to the name of its target, from the name that it has by then
+abbrev pub matches_taken : BTreeMap (List ℕ) (List ℕ) → List (Target × Option (List ℕ)) → List Change
+matches_taken asides ms = filter_map (λ m. option_map (λ name. Rename (place_in asides name) m.0.name) m.1) ms
 
 -- targets are written
 abbrev pub writes : List (Target × List ℕ) → List Change
 writes targets = map (λ c. Write c.0.name c.1) targets
 
--- the files of these names that aren't matches are removed under `place name`, the name that each has by then
-abbrev pub files_removed : (List ℕ → List ℕ) → List (List ℕ) → List (List ℕ) → List Change
-files_removed place matching names = map (λ name. Remove (place name)) (filter (λ name. not (is_among matching name)) names)
-
--- the name of a file once the files of these names are put aside
-abbrev pub place_by : (List ℕ → List ℕ) → List (List ℕ) → List ℕ → List ℕ
-place_by aside names name = if is_among names name then aside name else name
-
--- a tree has exactly these names, each with its aside
-abbrev pub HoldsAsides : (List ℕ → List ℕ) → List (List ℕ) → BTreeMap (List ℕ) (List ℕ) → Type 0
-HoldsAsides aside names tree =
-    (name : List ℕ) → get (slice_cmp nat_cmp) tree name ≡ (if is_among names name then Some (aside name) else None)
+-- the files of these names that aren't matches are removed under the names that they have by then
+abbrev pub removed : BTreeMap (List ℕ) (List ℕ) → BTreeSet (List ℕ) → List (List ℕ) → List Change
+removed asides matching names =
+    map (λ name. Remove (place_in asides name)) (filter (λ name. not (contains (slice_cmp nat_cmp) matching name)) names)
 
 -- the names of those targets that are in the folder
 abbrev pub names_there : Folder → List (Target × Option (List ℕ)) → List (List ℕ)
@@ -76,7 +83,7 @@ names_there folder incomplete = map (λ m. m.0.name) (filter (λ m. has folder m
 pub record AreMoves (folder : Folder) (set : ParSet) (searched : List (List ℕ)) (moves : Moves) : Type 0 where
   pub incomplete : moves.incomplete.now ≡ search.matches folder set searched
   pub names : moves.put_aside.items ≡ put_aside folder set
-  pub asides : HoldsAsides (aside folder set) (put_aside folder set) moves.asides
+  pub asides : (name : List ℕ) → place_in moves.asides name ≡ now_at folder set name
 
 -- the changes of a repair, which may purge
 abbrev pub repair_by : Bool → Folder → ParSet → List (List ℕ) → List Change

@@ -29,10 +29,7 @@ targets_among set slices names = filter (λ c. is_among names c.0.name) (files_o
 abbrev pub md5s_of : List (Target × List ℕ) → List (List ℕ)
 md5s_of targets = map (λ c. c.0.md5) targets
 
--- a target whose slices begin with number `first`, with its bytes
-abbrev pub target_at : List (List ℕ) → ℕ → Target → Target × List ℕ
-target_at slices first t = (t, take t.length (concat (take (length t.pairs) (drop first slices))))
-
--- that target in a list, if it has one of these names
+-- a target whose slices begin with number `first`, with its bytes, in a list if it has one of these names
 abbrev pub chosen_at : List (List ℕ) → List (List ℕ) → ℕ → Target → List (Target × List ℕ)
-chosen_at names slices first t = filter (λ c. is_among names c.0.name) (target_at slices first t ∷ [])
+chosen_at names slices first t =
+    filter (λ c. is_among names c.0.name) ((t, take t.length (concat (take (length t.pairs) (drop first slices)))) ∷ [])

@@ -38,8 +38,7 @@ impl Draft {
 
     /// The bytes of the files that the changes write, in order: the caller computes their MD5s for `tested`.
     pub fn buffers(&self, alloc: Global) -> Result<Vec<&[u8]>>
-        ensures { IfOk result
-            (λ buffers. buffers_of buffers.items ≡ buffers_written self.now.changes) }
+        ensures { IfOk result (λ all. buffers_of all.items ≡ buffers_written self.now.changes) }
     {
         let mut buffers = Vec::new(alloc);
         for change in self.changes.as_slice() {

@@ -5,6 +5,7 @@ ghost use Rattle.std.specs.Prelude.{◌≡◌, ℕ, List, not, map, filter, IfOk
 ghost use Rattle.std.specs.List.{IsDistinct};
 ghost use Rattle.std.specs.Str.{bytes_eq};
 ghost use Rattle.par2_spec.specs.Search as search;
+ghost use Rattle.par2_spec.specs.Search.{intact_names};
 ghost use Rattle.par2_slices.specs.Matching.{Describe, matched_numbers};
 ghost use Rattle.par2_spec.specs.Answers.{Lists};
 ghost use Rattle.par2_spec.specs.Folders.{bytes_of};
@@ -59,8 +60,7 @@ fn parted<'s>(
 ) -> Result<(Vec<&'s Target>, BTreeSet<&'s Name>)>
     ensures incomplete { let incomplete = search.incomplete folder.now.files set.now in
         IfOk result (λ parted. map (λ t. t.now) parted.0.items ≡ incomplete) }
-    ensures intact { let intact = search.intact_names folder.now.files set.now in
-        IfOk result (λ parted. HoldsNames parted.1 intact) }
+    ensures intact { IfOk result (λ p. HoldsNames p.1 (intact_names folder.now.files set.now)) }
 {
     let mut incomplete = Vec::new(alloc);
     let mut intact = BTreeSet::new(alloc);

@@ -1,23 +1,21 @@
-//! The parts of a repair's changes: `moves_of` chooses the asides, the names to which files of incomplete targets are
-//! renamed. `repair_changes` lists the renames and the writes, and `push_removals` the removals of a repair that
-//! purges.
-ghost use Rattle.std.specs.Prelude.{◌≡◌, ◌++◌, ℕ, List, Some, None, is_none, map, filter_map, if◌then◌else◌, IfOk, OnOk};
+//! The changes of a repair: `moves_of` chooses the asides, the names to which files of incomplete targets are renamed,
+//! and `repair_changes` lists the renames, the writes and the removals.
+ghost use Rattle.std.specs.Prelude.{◌≡◌, ◌++◌, ℕ, List, Some, None, is_none, filter_map, if◌then◌else◌, IfOk, OnOk};
 ghost use Rattle.par2_spec.specs.Answers.{FailsFor, Lists};
-ghost use Rattle.par2_spec.specs.Changes as spec;
 ghost use Rattle.par2_spec.specs.Repairs.{names_without_match};
 ghost use Rattle.par2_sets.specs.Asides.{HoldsOwned, long_aside};
-ghost use Rattle.par2_repair.specs.Repairing.{AreMoves, HoldsAsides, files_removed, matches_taken, names_there, place_by, writes};
-ghost use Rattle.par2_spec.specs.Folders as folders;
-ghost use Rattle.par2_spec.specs.Plans.{repair_changes, repair_removals};
-ghost use Rattle.par2_spec.specs.Repairs.{AreFew, par_files, rebuilt_targets};
+ghost use Rattle.par2_repair.specs.Repairing.{AreMoves, HasAsides, matches_taken, names_there, place_in, removed, renamed, repair_by, writes};
+ghost use Rattle.par2_spec.specs.Folders.{Folder as Files};
+ghost use Rattle.par2_spec.specs.Repairs.{AreFew, rebuilt_targets};
+ghost use Rattle.par2_sets.specs.SetReading.{own_files};
 ghost use Rattle.par2_spec.specs.Search.{matches};
-ghost use Rattle.par2_spec.specs.Sets as sets;
 
 use crate::Changes;
 use crate::matching::Incomplete;
+use crate::reading::Reading;
 use crate::restored_files::Restored;
 use par2_files::{Change, Folder, Name};
-use par2_sets::{ParSet, asides};
+use par2_sets::{ParSet, asides, par_files};
 use par2_spec::{Fault, Result};
 use std::alloc::Global;
 use std::collections::{BTreeMap, BTreeSet};
@@ -40,19 +38,16 @@ pub struct Moves<'n, 's> {
 fn present(alloc: Global, folder: &Folder, targets: &[Incomplete]) -> Result<Vec<Name>>
     ensures { Lists (names_there folder.now.files targets.now) result }
 {
-    let mut names = Vec::new(alloc);
-    for incomplete in targets {
-        if folder.get(incomplete.target.name()).is_some() {
-            names.push(incomplete.target.name().copied())?;
-        }
-    }
-    Ok(names)
+    let there = targets
+        .iter()
+        .filter(|incomplete| folder.get(incomplete.target.name()).is_some());
+    let names = there.map(|incomplete| incomplete.target.name().copied());
+    names.collect(alloc)
 }
 
 // The name of an incomplete target, if it has no match.
 fn unmatched_name(incomplete: &Incomplete) -> Option<Name>
-    ensures { let name = incomplete.now.0.name in
-        result ≡ if is_none incomplete.now.1 then Some name else None }
+    ensures { result ≡ if is_none incomplete.now.1 then Some incomplete.now.0.name else None }
 {
     match incomplete.found {
         Some(_) => None,
@@ -70,8 +65,7 @@ pub fn unmatched(alloc: Global, incomplete: &[Incomplete]) -> Result<BTreeSet<Na
 
 // A map of the asides by the names of the files that are put aside. `asides[k]` is that of `names[k]`.
 fn asides_by_name(alloc: Global, names: &[Name], asides: &[Name]) -> Result<Asides>
-    ensures { IfOk result (λ tree. (aside : List ℕ → List ℕ) →
-        asides.now ≡ map aside names.now → HoldsAsides aside names.now tree) }
+    ensures { IfOk result (HasAsides names.now asides.now) }
 {
     let names = names.iter().zip(asides);
     let pairs = names.map(|(name, aside)| (name.copied(), aside.copied()));
@@ -117,8 +111,7 @@ fn matching(alloc: Global, targets: &[Incomplete]) -> Result<BTreeSet<Name>>
 
 // The name of a file once files are put aside: its aside, if it is one of them, and otherwise its own name.
 fn now_at(asides: &Asides, name: &Name) -> Name
-    ensures { (aside : List ℕ → List ℕ) (names : List (List ℕ)) →
-        HoldsAsides aside names asides.now → result ≡ place_by aside names name.now }
+    ensures { result ≡ place_in asides.now name.now }
 {
     match asides.get(name) {
         Some(aside) => aside.copied(),
@@ -128,10 +121,7 @@ fn now_at(asides: &Asides, name: &Name) -> Name
 
 // Adds the changes that put these files aside, each by a rename.
 fn push_asides(changes: &mut Changes, names: &[Name], asides: &Asides) -> Result<()>
-    ensures { (aside : List ℕ → List ℕ) (all : List (List ℕ)) →
-        HoldsAsides aside all asides.now →
-        let renames = map (λ name. spec.Rename name (place_by aside all name)) names.now in
-        OnOk result (changes.new ≡ changes.old ++ renames) }
+    ensures { OnOk result (changes.new ≡ changes.old ++ renamed asides.now names.now) }
 {
     for name in names {
         changes.push(Change::Rename(name.copied(), now_at(asides, name)))?;
@@ -141,10 +131,7 @@ fn push_asides(changes: &mut Changes, names: &[Name], asides: &Asides) -> Result
 
 // Adds the changes that rename each match to its target's name, from its aside if it was put aside.
 fn push_matches(changes: &mut Changes, targets: &[Incomplete], asides: &Asides) -> Result<()>
-    ensures { (aside : List ℕ → List ℕ) (all : List (List ℕ)) →
-        HoldsAsides aside all asides.now →
-        let taken = matches_taken (place_by aside all) targets.now in
-        OnOk result (changes.new ≡ changes.old ++ taken) }
+    ensures { OnOk result (changes.new ≡ changes.old ++ matches_taken asides.now targets.now) }
 {
     for incomplete in targets {
         if let Some(found) = &incomplete.found {
@@ -172,10 +159,7 @@ fn push_removed(
     asides: &Asides,
     matching: &BTreeSet<Name>,
 ) -> Result<()>
-    ensures { (aside : List ℕ → List ℕ) (all given : List (List ℕ)) →
-        HoldsAsides aside all asides.now → HoldsOwned matching.now given →
-        let removed = files_removed (place_by aside all) given names.now in
-        OnOk result (changes.new ≡ changes.old ++ removed) }
+    ensures { OnOk result (changes.new ≡ changes.old ++ removed asides.now matching.now names.now) }
 {
     for name in names {
         if !matching.contains(name) {
@@ -185,35 +169,32 @@ fn push_removed(
     Ok(())
 }
 
-/// The changes of a repair without its removals: files are put aside, targets take their matches, and the targets
-/// without a match, `restored`, are written.
-pub fn repair_changes(alloc: Global, moves: &Moves, restored: Vec<Restored>) -> Result<Changes>
-    ensures { (folder : folders.Folder) (set : sets.ParSet) (searched : List (List ℕ))
-        → AreMoves folder set searched moves.now
-        → restored.entry.items ≡ rebuilt_targets folder set searched
-        → IfOk result (λ changes. changes ≡ repair_changes folder set searched) }
+/// The changes of a repair: files are put aside, targets take their matches, and the targets without a match,
+/// `restored`, are written. A repair that purges then removes the asides that are left and the set's PAR2 files, but no
+/// match, because it is a target by then.
+pub fn repair_changes(
+    alloc: Global,
+    reading: &Reading,
+    moves: &Moves,
+    restored: Vec<Restored>,
+    purge: bool,
+) -> Result<Changes>
+    ensures { (files : Files) (searched : List (List ℕ))
+        → reading.now.own_files.items ≡ own_files files reading.now.set.id
+        → AreMoves files reading.now.set searched moves.now
+        → restored.entry.items ≡ rebuilt_targets files reading.now.set searched
+        → IfOk result (λ changes. changes ≡ repair_by purge files reading.now.set searched) }
 {
     let mut changes = Changes::new(alloc);
     push_asides(&mut changes, &moves.put_aside, &moves.asides)?;
     push_matches(&mut changes, moves.incomplete, &moves.asides)?;
     push_writes(&mut changes, restored)?;
-    Ok(changes)
-}
-
-/// Appends the removals of a repair that purges: the asides that are left, then the set's PAR2 files, whose names are
-/// `files`. A match is kept, because it is a target by then.
-pub fn push_removals(
-    alloc: Global,
-    changes: &mut Changes,
-    moves: &Moves,
-    files: &[Name],
-) -> Result<()>
-    ensures { (folder : folders.Folder) (set : sets.ParSet) (searched : List (List ℕ))
-        → AreMoves folder set searched moves.now
-        → files.now ≡ par_files folder set
-        → OnOk result (changes.new ≡ changes.old ++ repair_removals folder set searched) }
-{
+    if !purge {
+        return Ok(changes);
+    }
     let matching = matching(alloc, moves.incomplete)?;
-    push_removed(changes, &moves.put_aside, &moves.asides, &matching)?;
-    push_removed(changes, files, &moves.asides, &matching)
+    let files = par_files(alloc, &reading.set, &reading.own_files)?;
+    push_removed(&mut changes, &moves.put_aside, &moves.asides, &matching)?;
+    push_removed(&mut changes, &files, &moves.asides, &matching)?;
+    Ok(changes)
 }

@@ -1,8 +1,10 @@
 //! Verify, repair and purge first call `read`: it checks that the base and the extra files exist, and reads the set of
 //! the base's packets.
-ghost use Rattle.std.specs.Prelude.{◌≡◌, ◌<◌, Some, not, map, filter, position, string_bytes, is_some, IfOk, IfSome, IsErrOf};
+ghost use Rattle.std.specs.Prelude.{◌≡◌, ◌<◌, Some, None, not, filter, position, string_bytes, is_some, IfOk, IfSome, MatchResult};
 ghost use Rattle.par2_spec.specs.Answers.{Lists};
 ghost use Rattle.par2_spec.specs.Folders.{has};
+ghost use Rattle.par2_spec.specs.Planned.{RefusesEarly, verify_of};
+ghost use Rattle.par2_repair.specs.Words.{words};
 ghost use Rattle.par2_spec.specs.Refusals.{absent_file, set_in};
 ghost use Rattle.par2_sets.specs.SetReading.{Returns, own_files};
 
@@ -41,35 +43,41 @@ fn first_absent(folder: &Folder, words: &[String]) -> Option<usize>
         .position(|word| present(folder, word).is_none())
 }
 
-// The words that are names of files in the folder: all of them, once `first_absent` has found none.
+// The name of the base, if it and all extra words are names of files in the folder. `NoSuchFile` has the number of the
+// first absent file: 0 for the base, then the extras.
+fn base_name(folder: &Folder, base: &str, extras: &[String]) -> Result<Name, Fault>
+    ensures { let absent = absent_file folder.now.files base.now (words extras.now) in
+        MatchResult result (λ name. (name ≡ base.now) × (absent ≡ None)) (λ e. absent ≡ Some e) }
+{
+    let name = present(folder, base).ok_or(Fault::NoSuchFile(0))?;
+    match first_absent(folder, extras) {
+        Some(place) => Err(Fault::NoSuchFile(place + 1)),
+        None => Ok(name),
+    }
+}
+
+// The words that are names of files in the folder.
 fn present_extras(alloc: Global, folder: &Folder, extras: &[String]) -> Result<Vec<Name>>
-    ensures { Lists (filter (has folder.now.files) (map string_bytes extras.now)) result }
+    ensures { Lists (filter (has folder.now.files) (words extras.now)) result }
 {
     let names = extras.iter().filter_map(|word| present(folder, word));
     names.collect(alloc)
 }
 
-/// Reads the set of the base. `NoSuchFile` has the number of the first absent file: 0 for the base, then the extras.
-/// Finding it takes no memory.
+/// Reads the set of the base. A file that is absent is the first fault, and finding it takes no memory.
 pub fn read<'a>(
     alloc: Global,
     folder: &'a Folder,
     base: &str,
     extras: &[String],
 ) -> Result<Reading<'a>, Fault>
-    ensures set { let set = set_in folder.now.files base.now (map string_bytes extras.now) in
+    ensures set { let set = set_in folder.now.files base.now (words extras.now) in
         Returns (λ reading. reading.set) result set }
-    ensures early { (fault : Fault)
-        → absent_file folder.now.files base.now (map string_bytes extras.now) ≡ Some fault
-        → IsErrOf result fault }
-    ensures own { IfOk result
-        (λ reading. reading.own_files.items ≡ own_files folder.now.files reading.set.id) }
-    ensures extras { IfOk result (λ reading. reading.extras.items ≡ map string_bytes extras.now) }
+    ensures early { RefusesEarly folder.now.files (verify_of base.now extras.now) result }
+    ensures own { IfOk result (λ r. r.own_files.items ≡ own_files folder.now.files r.set.id) }
+    ensures extras { IfOk result (λ r. r.extras.items ≡ words extras.now) }
 {
-    let base = present(folder, base).ok_or(Fault::NoSuchFile(0))?;
-    if let Some(place) = first_absent(folder, extras) {
-        return Err(Fault::NoSuchFile(place + 1));
-    }
+    let base = base_name(folder, base, extras)?;
     let extras = present_extras(alloc, folder, extras)?;
     let ReadSet { set, own_files } = set_of(alloc, folder, &base)?;
     Ok(Reading {

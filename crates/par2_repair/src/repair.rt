@@ -1,24 +1,23 @@
 //! The changes of a repair. `draft_repair` reads the set, finds the matches, rebuilds the targets without one, and
 //! lists the changes. `plan_repair` also checks the MD5s of the files that they write.
-ghost use Rattle.std.specs.Prelude.{◌≡◌, ◌⊎◌, ℕ, List, map, string_bytes, IsTrue, IfErr, IfOk, OnOk};
+ghost use Rattle.std.specs.Prelude.{◌≡◌, ◌⊎◌, ℕ, List, IsTrue, IfErr, IfOk, OnOk};
 ghost use Rattle.par2_spec.specs.Changes.{are_applicable, effects};
 ghost use Rattle.par2_spec.specs.Plans.{AreFewFor};
 ghost use Rattle.par2_spec.specs.Refusals.{repair_refusal};
-ghost use Rattle.par2_spec.specs.Repairs.{rebuilt_targets};
-ghost use Rattle.par2_spec.specs.Search as search;
+ghost use Rattle.par2_spec.specs.Search.{matches};
 ghost use Rattle.par2_laws.specs.Answers.{RestoresFiles, RestoresInputs, folder_left};
 ghost use Rattle.par2_repair.specs.Restoring.{md5s_of, undetermined_fault};
 ghost use Rattle.par2_sets.specs.Asides.{HoldsOwned};
 ghost use Rattle.par2_sets.specs.SetReading.{own_files};
-ghost use Rattle.par2_spec.specs.Folders.{Folder as Files};
 ghost use Rattle.par2_spec.specs.Answers.{FailsFor, Lists};
 ghost use Rattle.par2_spec.specs.Planned.{FailsAs, GivesChanges, LeadsAs, RefusesEarly, SucceedsAs, repair_of};
 ghost use Rattle.par2_repair.specs.Drafts.{HasItsMd5s, IsDraft, IsDraftBy};
-ghost use Rattle.par2_repair.specs.Repairing.{IsWholeWhereMatched, AreMoves, AreRestored, known_by, repair_by, WritesAsDescribed};
+ghost use Rattle.par2_repair.specs.Repairing.{IsWholeWhereMatched, AreRestored, known_by, WritesAsDescribed};
+ghost use Rattle.par2_repair.specs.Words.{words};
 
 use crate::candidates::candidates;
 use crate::matching::{Incomplete, matches};
-use crate::moves::{Moves, moves_of, push_removals, repair_changes, unmatched};
+use crate::moves::{moves_of, repair_changes, unmatched};
 use crate::reading::{Reading, read};
 use crate::restored_files::{Restored, restored_files};
 use crate::restored_slices::restored_slices;
@@ -26,7 +25,7 @@ use crate::{Changes, Draft};
 use par2_files::{Folder, Name};
 use par2_laws::answers::{repair_restores_the_files, repair_restores_the_inputs};
 use par2_md5_lanes::buffer_digests;
-use par2_sets::{ParSet, par_files};
+use par2_sets::ParSet;
 use par2_spec::{Fault, Result};
 use std::alloc::Global;
 use std::collections::BTreeSet;
@@ -61,54 +60,31 @@ fn md5s_of(alloc: Global, restored: &[Restored]) -> Result<Vec<[u8; 16]>>
     restored.iter().map(Restored::md5).collect(alloc)
 }
 
-// The changes of a repair: moves, writes of the restored targets and, with `purge`, removals.
-fn changes_with(
-    alloc: Global,
-    reading: &Reading,
-    moves: &Moves,
-    restored: Vec<Restored>,
-    purge: bool,
-) -> Result<Changes>
-    ensures { (files : Files) (searched : List (List ℕ))
-        → reading.now.own_files.items ≡ own_files files reading.now.set.id
-        → AreMoves files reading.now.set searched moves.now
-        → restored.entry.items ≡ rebuilt_targets files reading.now.set searched
-        → IfOk result (λ changes. changes ≡ repair_by purge files reading.now.set searched) }
-{
-    let mut changes = repair_changes(alloc, moves, restored)?;
-    if purge {
-        let files = par_files(alloc, &reading.set, &reading.own_files)?;
-        push_removals(alloc, &mut changes, moves, &files)?;
-    }
-    Ok(changes)
-}
-
-// The draft of a repair of the set, with its incomplete targets and their matches among the candidates. It is refused
-// if the lost slices aren't determined or an aside is too long. `IsDraftBy`: only a wrong MD5 can still refuse it.
+// The draft of a repair of the set, with its incomplete targets and their matches among the candidates, `names`. It is
+// refused if the lost slices aren't determined or an aside is too long. `IsDraftBy`: only a wrong MD5 can still refuse
+// it.
 fn draft_with(
     alloc: Global,
     folder: &Folder,
     reading: &Reading,
-    candidates: &[Name],
+    names: &[Name],
     incomplete: &[Incomplete],
     purge: bool,
 ) -> Result<Draft, Fault>
     requires own { reading.now.own_files.items ≡ own_files folder.now.files reading.now.set.id }
-    requires incomplete { incomplete.now
-        ≡ search.matches folder.now.files reading.now.set candidates.now }
-    requires whole { IsWholeWhereMatched folder.now.files reading.now.set candidates.now }
-    ensures refused { FailsFor (repair_refusal folder.now.files reading.now.set candidates.now)
-        result }
-    ensures draft { IfOk result (IsDraftBy purge folder.now.files reading.now.set candidates.now) }
+    requires incomplete { incomplete.now ≡ matches folder.now.files reading.now.set names.now }
+    requires whole { IsWholeWhereMatched folder.now.files reading.now.set names.now }
+    ensures refused { FailsFor (repair_refusal folder.now.files reading.now.set names.now) result }
+    ensures draft { IfOk result (IsDraftBy purge folder.now.files reading.now.set names.now) }
 {
     let set = &reading.set;
     let restored = {
         let unmatched = unmatched(alloc, incomplete)?;
-        files_for(alloc, folder, set, candidates, &unmatched)?
+        files_for(alloc, folder, set, names, &unmatched)?
     };
     let md5s = md5s_of(alloc, &restored)?;
     let moves = moves_of(alloc, folder, set, incomplete)?;
-    let changes = changes_with(alloc, reading, &moves, restored, purge)?;
+    let changes = repair_changes(alloc, reading, &moves, restored, purge)?;
     Ok(Draft { changes, md5s })
 }
 
@@ -126,8 +102,7 @@ pub fn draft_repair(
     // It is refused as the definitions say, or memory ran out; early refusals need no memory.
     ensures refused { FailsAs folder.now.files (repair_of base.now extras.now purge) result }
     ensures early { RefusesEarly folder.now.files (repair_of base.now extras.now purge) result }
-    ensures draft { let words = map string_bytes extras.now in
-        IfOk result (IsDraft folder.now.files base.now words purge) }
+    ensures draft { IfOk result (IsDraft folder.now.files base.now (words extras.now) purge) }
 {
     let reading = read(alloc, folder, base, extras)?;
     let set = &reading.set;
@@ -167,16 +142,15 @@ pub fn plan_repair(
     ensures leads { LeadsAs folder.now.files (repair_of base.now extras.now purge) result }
     // Each file that is written from slices has the described length and MD5, whatever the folder's
     // files hold. The folder has few enough names to number the asides.
-    ensures written { let words = map string_bytes extras.now in
-        OnOk result (WritesAsDescribed folder.now.files base.now words) }
+    ensures written { OnOk result (WritesAsDescribed folder.now.files base.now (words extras.now)) }
     ensures few { OnOk result (AreFewFor folder.now.files (repair_of base.now extras.now purge)) }
     // If the set was made from certain files, and no checksum collides, they are in the folder
     // that the changes lead to. RepairFailed isn't returned, and NotRepairable only if other
     // slices, too, agree with all that is found.
-    ensures restores { RestoresFiles folder.now.files base.now (map string_bytes extras.now)
+    ensures restores { RestoresFiles folder.now.files base.now (words extras.now)
         (folder_left (effects folder.now.files) result) }
     // The same holds for a create's inputs that were damaged after it.
-    ensures inputs { RestoresInputs folder.now.files base.now (map string_bytes extras.now)
+    ensures inputs { RestoresInputs folder.now.files base.now (words extras.now)
         (folder_left (effects folder.now.files) result) }
 {
     repair_restores_the_files();

@@ -110,8 +110,7 @@ fn state_of(folder: &Folder, target: &Target, matches: &Matches) -> State
 
 // How many of the slices with these checksums are found.
 fn count_found(pairs: &[Pair], lost: &BTreeSet<Pair>) -> usize
-    ensures { let is_lost = contains pair_cmp lost.now in
-        result ≡ length (filter (λ pair. not (is_lost pair)) pairs.now) }
+    ensures { result ≡ length (filter (λ pair. not (contains pair_cmp lost.now pair)) pairs.now) }
 {
     pairs.iter().filter(|pair| !lost.contains(*pair)).count()
 }

@@ -2,6 +2,7 @@
 //! `par2_solve` rebuild the lost ones, and merges both. `RestoredSlices::file` cuts files out of them.
 ghost use Rattle.std.specs.Prelude.{◌≡◌, ◌⊎◌, ◌+◌, ◌++◌, ◌∷◌, ◌<◌, ◌≤◌, ℕ, List, None, length, map, take, drop, IfOk, IfErr, IsOk, OnOk};
 ghost use Rattle.std.specs.List.{AllByRecursion, concat};
+ghost use Rattle.par2_spec.specs.Answers.{FailsFor, Lists};
 ghost use Rattle.par2_spec.specs.Sums.{lists_of};
 ghost use Rattle.par2_spec.specs.Repairs.{rebuilt};
 ghost use Rattle.par2_spec.specs.Search.{lost};
@@ -60,23 +61,21 @@ impl<'a> Model for RestoredSlices<'a> {
     ghost view = { λ a. slices_of a.slice_size a.slices.items };
 }
 
-// Appends a slice and its padding to the first bytes of a file, up to `size`, the file's length in bytes.
-fn push_slice(file: &mut Vec<u8>, slice: &[u8], slice_size: usize, size: usize) -> Result<()>
+// Appends a slice of `s` bytes with its padding to the first bytes of a file, up to `size`, the file's length in bytes.
+fn push_slice(file: &mut Vec<u8>, slice: &[u8], s: usize, size: usize) -> Result<()>
     requires { length file.old.items ≤ size }
-    ensures { let longer = file.old.items ++ padded slice_size slice.now in
-        OnOk result (file.new.items ≡ take size longer) }
+    ensures { OnOk result (file.new.items ≡ take size (file.old.items ++ padded s slice.now)) }
 {
     let room = size - file.len();
     file.extend_from_slice(&slice[..room.min(slice.len())])?;
     let room = size - file.len();
-    let zeros = slice_size.saturating_sub(slice.len());
+    let zeros = s.saturating_sub(slice.len());
     file.resize(file.len() + room.min(zeros), 0)
 }
 
 // The first `size` bytes of these slices, joined with their padding: the file of this length that has these slices.
 fn joined(alloc: Global, slices: &[Slice], slice_size: usize, size: usize) -> Result<Vec<u8>>
-    ensures { let slices = slices_of slice_size slices.now in
-        IfOk result (λ file. file.items ≡ take size (concat slices)) }
+    ensures { Lists (take size (concat (slices_of slice_size slices.now))) result }
 {
     let mut file = Vec::with_capacity(alloc, size)?;
     for slice in slices {
@@ -89,8 +88,7 @@ impl<'a> RestoredSlices<'a> {
     // The file of `size` bytes that has the `count` slices from number `at` of the set on.
     pub(crate) fn file(&self, alloc: Global, at: usize, count: usize, size: u64) -> Result<Vec<u8>>
         requires { at + count ≤ length self.now }
-        ensures { let slices = take count (drop at self.now) in
-            IfOk result (λ file. file.items ≡ take size (concat slices)) }
+        ensures { Lists (take size (concat (take count (drop at self.now)))) result }
     {
         let slices = &self.slices[at..at + count];
         joined(alloc, slices, self.slice_size, size as usize)
@@ -99,7 +97,7 @@ impl<'a> RestoredSlices<'a> {
 
 /// The checksums of all slices of a set, in order, by which the slices are searched.
 pub fn all_pairs(alloc: Global, set: &ParSet) -> Result<Vec<Pair>>
-    ensures { IfOk result (λ pairs. pairs.items ≡ all_pairs set.now) }
+    ensures { Lists (all_pairs set.now) result }
 {
     let pairs = set.targets().iter().flat_map(Target::pairs);
     pairs.copied().collect(alloc)
@@ -109,8 +107,7 @@ pub fn all_pairs(alloc: Global, set: &ParSet) -> Result<Vec<Pair>>
 // recovery slices. `CanRebuild`: they have the sizes and numbers that `rebuild_lost` requires.
 fn survivors_of<'a>(alloc: Global, set: &ParSet<'a>, buffers: &[&'a [u8]]) -> Result<Survivors<'a>>
     ensures fit { IfOk result CanRebuild }
-    ensures these { IfOk result
-        (AreSurvivorsOf set.now (known_in set.now (buffers_of buffers.now))) }
+    ensures are { IfOk result (AreSurvivorsOf set.now (known_in set.now (buffers_of buffers.now))) }
 {
     let slice_size = set.slice_size();
     let pairs = all_pairs(alloc, set)?;
@@ -195,15 +192,13 @@ pub fn restored_slices<'a>(
     buffers: &[&'a [u8]],
 ) -> Result<RestoredSlices<'a>, Fault>
     ensures refused { let known = known_in set.now (buffers_of buffers.now) in
-        IfErr result (λ fault. (fault ≡ Fault.Memory) ⊎ (undetermined_fault set.now known
-        ≡ Some fault)) }
+        FailsFor (undetermined_fault set.now known) result }
     ensures determined { let known = known_in set.now (buffers_of buffers.now) in
         IfOk result (λ _. undetermined_fault set.now known ≡ None) }
     ensures slices { let known = known_in set.now (buffers_of buffers.now) in
         IfOk result (λ slices. slices ≡ rebuilt set.now known) }
     ensures count { IfOk result (λ slices. length slices ≡ length (all_pairs set.now)) }
-    ensures sizes { IfOk result (λ slices.
-        AllByRecursion (λ slice. length slice ≡ set.now.slice_size) slices) }
+    ensures sizes { IfOk result (AllByRecursion (λ slice. length slice ≡ set.now.slice_size)) }
 {
     // For the prover: the rebuilt slices are the only list that agrees.
     rebuilt_slices_agree();

@@ -1,10 +1,10 @@
 //! The report of a verify: `check` reads the set, and `report_of` searches for its files and slices.
-ghost use Rattle.std.specs.Prelude.{◌≡◌, ℕ, List, map, string_bytes, IfOk, Ok};
+ghost use Rattle.std.specs.Prelude.{◌≡◌, ℕ, List, IfOk, Ok};
 ghost use Rattle.par2_spec.specs.Reports.{report_in, verdict_of, IsVerdictIn, RefusedAsReported};
 ghost use Rattle.par2_spec.specs.Planned.{FailsIn, RefusesEarly, verify_of};
 ghost use Rattle.par2_spec.specs.Refusals.{set_in};
-ghost use Rattle.par2_repair.specs.Findings.{IsRead};
 ghost use Rattle.par2_repair.specs.ReportViews.{report_view};
+ghost use Rattle.par2_repair.specs.Words.{words};
 
 use crate::Report;
 use crate::candidates::candidates;
@@ -18,10 +18,9 @@ use par2_sets::ParSet;
 use par2_spec::{Fault, Result};
 use std::alloc::Global;
 
-// The report on this set, whose files and slices are searched for in the files of its targets and in the extras.
-// `IsRead`: the set is that of some base, so a report of that base is this one.
+// The report on this set, whose files and slices are searched for in the files of its targets and in the extras. If it
+// is the set of a base, this is the report of that base.
 fn report_of(alloc: Global, folder: &Folder, set: &ParSet, extras: &[Name]) -> Result<Report>
-    requires { IsRead folder.now.files set.now extras.now }
     ensures { (base : List ℕ) → set_in folder.now.files base extras.now ≡ Ok set.now →
         let answer = report_in folder.now.files base extras.now in
         IfOk result (λ report. answer ≡ Ok (report_view report)) }
@@ -39,17 +38,14 @@ fn report_of(alloc: Global, folder: &Folder, set: &ParSet, extras: &[Name]) -> R
 /// recovery slices determine the lost slices. A repair is refused as not repairable if and only if the verdict is that.
 /// Memory is reported only if an allocation fails.
 pub fn check(alloc: Global, folder: &Folder, base: &str, extras: &[String]) -> Result<Report, Fault>
-    ensures refused { let words = map string_bytes extras.now in
-        FailsIn (report_in folder.now.files base.now words) result }
+    ensures refused { FailsIn (report_in folder.now.files base.now (words extras.now)) result }
     ensures early { RefusesEarly folder.now.files (verify_of base.now extras.now) result }
-    ensures report { let words = map string_bytes extras.now in
-        let answer = report_in folder.now.files base.now words in
+    ensures report { let answer = report_in folder.now.files base.now (words extras.now) in
         IfOk result (λ report. answer ≡ Ok (report_view report)) }
-    ensures verdict { let words = map string_bytes extras.now in
-        let is_verdict = IsVerdictIn folder.now.files base.now words in
+    ensures verdict { let is_verdict = IsVerdictIn folder.now.files base.now (words extras.now) in
         IfOk result (λ report. is_verdict (verdict_of (report_view report))) }
-    ensures repair { let words = map string_bytes extras.now in
-        let is_refused = RefusedAsReported folder.now.files base.now words in
+    ensures repair { let others = words extras.now in
+        let is_refused = RefusedAsReported folder.now.files base.now others in
         IfOk result (λ report. is_refused (report_view report)) }
 {
     let reading = read(alloc, folder, base, extras)?;

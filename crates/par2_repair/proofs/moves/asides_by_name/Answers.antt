@@ -5,7 +5,7 @@ use Rattle.par2_repair.proofs.moves.asides_by_name.Goals as goal
 
 pub returns : goal.returns
 returns c =
-    IfOk-weaker c.collect.result _ _ (λ tree is aside e. holds_asides aside c.args.names.now c.args.asides.now tree e is)
+    IfOk-weaker c.collect.result _ _ (λ tree is. holds_asides c.args.names.now c.args.asides.now tree is)
     (fact_from_collect (IsFromIterResult (slice_cmp nat_cmp)) c.collect.result c.collect.ensures.ran
     (YieldsList-from_map _ as_pair
     (YieldsList-at c.map-pairs.ensures.source (YieldsList-from_zip (YieldsList-from_slice c.args.names.now cc) (YieldsList-from_slice c.args.asides.now cc)))

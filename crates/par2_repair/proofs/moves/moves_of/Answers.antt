@@ -1,4 +1,4 @@
-use Rattle.par2_repair.proofs.Common.{◌≡◌, ◌∙◌, map, sym, ap, subst, aside, put_aside, HoldsAsides, names_there, err_from_is_err_and, long_aside, refused_by, Some, None}
+use Rattle.par2_repair.proofs.Common.{◌≡◌, ◌∙◌, ℕ, List, cond, is_among, map, sym, ap, subst, aside, put_aside, names_there, err_from_is_err_and, long_aside, refused_by, Some, None}
 use Rattle.par2_repair.proofs.RepairParts.{put_aside_in}
 use Rattle.par2_repair.proofs.moves.moves_of.Goals as goal
 
@@ -23,5 +23,7 @@ returns-clause-moves c = λ searched incomplete.
     record {
       incomplete = incomplete;
       names = put;
-      asides = subst (λ ns. HoldsAsides (aside folder set) ns c.in_ok-asides.asides) (c.deref-2.ensures.value ∙ put) (c.in_ok-asides.ensures (aside folder set) others);
+      asides = λ name.
+          c.in_ok-asides.ensures (aside folder set) others name
+          ∙ ap (λ (ns : List (List ℕ)). cond (is_among ns name) (aside folder set name) name) (c.deref-2.ensures.value ∙ put);
     }

@@ -1,5 +1,5 @@
 use Rattle.par2_repair.proofs.Common.{◌≡◌, ◌⊎◌, ◌∙◌, List, [], sym, ap, subst, Err, IsTrue, IfOk, IfErr, err_from_is_err_and, IfOk-weaker, Change, effects, are_applicable, Purge, changes_of, set_in, refusal, after, Fault, Memory, ok_no_err, refused_by, err_passed, Some, None, Option}
-use Rattle.par2_repair.proofs.PlanParts.{early_purge, purge_unread, purge_refused, purge_by_set, purge_leads}
+use Rattle.par2_repair.proofs.PlanParts.{purge_as_verify, purge_unread, purge_refused, purge_by_set, purge_leads}
 use Rattle.par2_repair.proofs.purge.plan_purge.Goals as goal
 
 pub returns-in_err-reading-clause-early : goal.returns-in_err-reading-clause-early
@@ -7,13 +7,13 @@ returns-in_err-reading-clause-early c fault early =
     let folder = c.args.folder.now.files in
     let base = c.args.base.now in
     err_passed c.from_residual.result c.in_err-reading.field-0.0 fault (err_from_is_err_and c.from_residual.result c.from_residual.ensures.1)
-    (sym c.in_err-reading.was ∙ c.read.ensures.early fault (sym (early_purge folder base) ∙ early))
+    (sym c.in_err-reading.was ∙ c.read.ensures.early fault (purge_as_verify folder base ∙ early))
 
 pub returns-clause-early : goal.returns-clause-early
 returns-clause-early c fault early =
     let folder = c.args.folder.now.files in
     let base = c.args.base.now in
-    absurd (ok_no_err c.in_ok-reading.reading fault (c.in_ok-reading.ensures.early fault (sym (early_purge folder base) ∙ early)))
+    absurd (ok_no_err c.in_ok-reading.reading fault (c.in_ok-reading.ensures.early fault (purge_as_verify folder base ∙ early)))
 
 pub returns-in_err-reading-clause-refused : goal.returns-in_err-reading-clause-refused
 returns-in_err-reading-clause-refused c =

@@ -1,7 +1,7 @@
 use Rattle.par2_repair.proofs.Common.{◌≡◌, ◌⊎◌, ◌∙◌, List, ℕ, map, sym, ap, subst, Err, string_bytes, IfErr, err_from_is_err_and, IfOk-weaker, Repair, set_in, refusal, repair_refusal, early_refusal, candidates, matches, IsDistinct, bytes_eq, std_from_distinct, Fault, Memory, ok_no_err, IsDraft, IsDraftBy, IsWholeWhereMatched, refused_by, err_passed, Some, Option}
 use Rattle.par2_repair.proofs.Choices.{distinct_once}
 use Rattle.par2_repair.proofs.Drafts.{is_draft}
-use Rattle.par2_repair.proofs.PlanParts.{early_repair, repair_unread, whole_if_matched, repair_refused}
+use Rattle.par2_repair.proofs.PlanParts.{repair_as_verify, repair_unread, whole_if_matched, repair_refused}
 use Rattle.par2_repair.proofs.repair.draft_repair.Goals.{After-draft_with, In_ok-reading}
 use Rattle.par2_repair.proofs.repair.draft_repair.Goals as goal
 
@@ -11,13 +11,13 @@ returns-in_err-reading-clause-early c fault early =
     let base = c.args.base.now in
     let extras : List (List ℕ) = map string_bytes c.args.extras.now in
     err_passed c.from_residual.result c.in_err-reading.field-0.0 fault (err_from_is_err_and c.from_residual.result c.from_residual.ensures.1)
-    (sym c.in_err-reading.was ∙ c.read.ensures.early fault (sym (early_repair folder base extras c.args.purge) ∙ early))
+    (sym c.in_err-reading.was ∙ c.read.ensures.early fault (repair_as_verify folder base extras c.args.purge ∙ early))
 
 -- after reading, no early refusal is left
 none_early : (c : In_ok-reading) (fault : Fault) → early_refusal c.args.folder.now.files (Repair c.args.base.now (map string_bytes c.args.extras.now) c.args.purge) ≡ Some fault → ⊥
 none_early c fault early =
     ok_no_err c.in_ok-reading.reading fault
-    (c.in_ok-reading.ensures.early fault (sym (early_repair c.args.folder.now.files c.args.base.now (map string_bytes c.args.extras.now) c.args.purge) ∙ early))
+    (c.in_ok-reading.ensures.early fault (repair_as_verify c.args.folder.now.files c.args.base.now (map string_bytes c.args.extras.now) c.args.purge ∙ early))
 
 pub returns-in_err-candidates-clause-early : goal.returns-in_err-candidates-clause-early
 returns-in_err-candidates-clause-early c fault early = absurd (none_early (goal.at.returns-in_err-candidates-clause-early c).In_ok-reading fault early)

@@ -4,16 +4,16 @@ use Rattle.par2_repair.proofs.repair.draft_with.Goals.{In_ok-restored}
 use Rattle.par2_repair.proofs.repair.draft_with.Goals as goal
 
 -- the lost slices can be rebuilt, if there are any
-reported : (c : In_ok-restored) → undetermined_fault c.args.reading.now.set (known_by c.args.folder.now.files c.args.reading.now.set c.args.candidates.now) ≡ None
+reported : (c : In_ok-restored) → undetermined_fault c.args.reading.now.set (known_by c.args.folder.now.files c.args.reading.now.set c.args.names.now) ≡ None
 reported c =
     let names = names_without_match c.args.incomplete.now in
-    reported_by c.args.folder.now.files c.args.reading.now.set c.args.candidates.now names (ap names_without_match c.requires.incomplete) c.requires.whole (c.in_ok-restored.ensures.restored names c.in_ok-unmatched.ensures).determined
+    reported_by c.args.folder.now.files c.args.reading.now.set c.args.names.now names (ap names_without_match c.requires.incomplete) c.requires.whole (c.in_ok-restored.ensures.restored names c.in_ok-unmatched.ensures).determined
 
 pub returns-in_err-restored-clause-refused : goal.returns-in_err-restored-clause-refused
 returns-in_err-restored-clause-refused c =
     let folder = c.args.folder.now.files in
     let set = c.args.reading.now.set in
-    let searched : List (List ℕ) = c.args.candidates.now in
+    let searched : List (List ℕ) = c.args.names.now in
     let fault = c.in_err-restored.field-0.0 in
     refused_by (λ y. undetermined_fault set (known_by folder set searched) ≡ Some y) (λ y. repair_refusal folder set searched ≡ Some y) c.from_residual-in_err-restored.result fault
     (err_from_is_err_and c.from_residual-in_err-restored.result c.from_residual-in_err-restored.ensures.1) c.in_err-restored.ensures.refused
@@ -23,7 +23,7 @@ pub returns-in_err-moves-clause-refused : goal.returns-in_err-moves-clause-refus
 returns-in_err-moves-clause-refused c =
     let folder = c.args.folder.now.files in
     let set = c.args.reading.now.set in
-    let searched : List (List ℕ) = c.args.candidates.now in
+    let searched : List (List ℕ) = c.args.names.now in
     let fault = c.in_err-moves.field-0.0 in
     refused_by (λ y. long_aside folder set (names_there folder c.args.incomplete.now) ≡ Some y) (λ y. repair_refusal folder set searched ≡ Some y) c.from_residual-in_err-moves.result fault
     (err_from_is_err_and c.from_residual-in_err-moves.result c.from_residual-in_err-moves.ensures.1) c.in_err-moves.ensures.refused
@@ -34,7 +34,7 @@ pub returns-clause-draft : goal.returns-clause-draft
 returns-clause-draft c =
     let folder = c.args.folder.now.files in
     let set = c.args.reading.now.set in
-    let searched : List (List ℕ) = c.args.candidates.now in
+    let searched : List (List ℕ) = c.args.names.now in
     let short = subst (λ ns. long_aside folder set ns ≡ None) (put_aside_in folder set searched c.args.incomplete.now c.requires.incomplete) c.in_ok-moves.ensures.short in
     let targets = targets_are folder set searched (names_without_match c.args.incomplete.now) (ap names_without_match c.requires.incomplete) in
     let restored = c.in_ok-restored.ensures.restored (names_without_match c.args.incomplete.now) c.in_ok-unmatched.ensures in

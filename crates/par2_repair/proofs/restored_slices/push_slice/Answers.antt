@@ -6,7 +6,7 @@ use Rattle.par2_repair.proofs.restored_slices.push_slice.Goals as goal
 pub returns : goal.returns
 returns c =
     let size = c.args.size in
-    let s = c.args.slice_size in
+    let s = c.args.s in
     let old : List ℕ = c.args.file.now.items in
     let bytes : List ℕ = c.args.slice.now in
     let file : List ℕ = c.extend_from_slice.new.self.items in

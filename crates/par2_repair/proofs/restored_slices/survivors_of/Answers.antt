@@ -3,8 +3,8 @@ use Rattle.par2_spec.proofs.FilesLaws.{size_even}
 use Rattle.par2_repair.proofs.Merging.{short_present}
 use Rattle.par2_repair.proofs.restored_slices.survivors_of.Goals as goal
 
-pub returns-clause-these : goal.returns-clause-these
-returns-clause-these c =
+pub returns-clause-are : goal.returns-clause-are
+returns-clause-are c =
     let s = c.slice_size-slice_size.result in
     let buffers = buffers_of c.args.buffers.now in
     let pairs : ◌≡◌ {A = List Pair} c.deref.result.now (all_pairs c.args.set.now) = c.deref.ensures.value ∙ c.in_ok-pairs.ensures in
@@ -20,7 +20,7 @@ returns-clause-fit c =
     let size : c.slice_size-slice_size.result ≡ c.args.set.now.slice_size = c.slice_size-slice_size.ensures.value in
     let windows : List Window = c.in_ok-found_windows.field-0.items in
     let slices = c.in_ok-from_slice.field-0.items in
-    let known : known_of c.slice_size-slice_size.result windows ≡ known_in c.args.set.now (buffers_of c.args.buffers.now) = (returns-clause-these c).known in
+    let known : known_of c.slice_size-slice_size.result windows ≡ known_in c.args.set.now (buffers_of c.args.buffers.now) = (returns-clause-are c).known in
     let count : length windows ≡ length (all_pairs c.args.set.now) = sym (length-map windows (padded_window c.slice_size-slice_size.result)) ∙ ap length known ∙ length-map (all_pairs c.args.set.now) _ in
     record {
       count = omega (arith, count, sound.slices);
