@@ -1,7 +1,8 @@
 #!/usr/bin/env python3
 """Checks that what the pages name exists. In the tables of promises, `call` (`clause`, ..) names clauses of that function,
-or of functions of that type or trait, and each other name between backquotes is one of the sources. On the pages about the
-code, and in the crates' READMEs, each name between backquotes is one of the sources or of a file.
+or of functions of that type or trait, and names after a colon are fields of records that these clauses cite. Each other name
+between backquotes is one of the sources. On the pages about the code, and in the crates' READMEs, each name between
+backquotes is one of the sources or of a file.
 
 usage: named.py
 """
@@ -12,7 +13,10 @@ import sys
 
 TOP = os.path.join(os.path.dirname(os.path.realpath(__file__)), "..")
 CALL = re.compile(r"`([\w:]+)`(?:, `([\w:]+)`)* \(((?:`\w+`(?:, )?)+)\)")
-CLAUSE = re.compile(r"^ *ensures\*? (\w+) \{", re.M)
+CLAUSE = re.compile(r"^ *ensures\*? (\w+) \{(.*?)\};?$", re.M | re.S)
+# A definition, with the lines below it that are indented more.
+DEFINITION = re.compile(r"^( *)(?:abbrev )?pub (record )?(\w+).*\n((?:\1 +.*\n|\1\3 .*\n)*)", re.M)
+FIELD = re.compile(r"^ *pub (\w+) :", re.M)
 PROMISES = {"README.md": "## What is proved", "docs/PROMISES.md": "## The headline"}
 # Pages about the code, and what else they name: a system call, and variables of formulas.
 OF_CODE = ["docs/ARCHITECTURE.md", "docs/DECISIONS.md", "crates/*/README.md"]
@@ -27,11 +31,20 @@ def sources():
 
 
 def clauses_of(name, texts):
-    """Returns the names of the clauses of all functions of this name, or of those in a file that defines such a type."""
+    """Returns the clauses of all functions of this name, or of those in a file that defines such a type, with their texts."""
     function = re.compile(rf"fn {name.split('::')[-1]}\b.*?\n *(?:\{{|;)?$", re.S | re.M)
-    found = {clause for text in texts for head in function.finditer(text) for clause in CLAUSE.findall(head[0])}
+    found = [clause for text in texts for head in function.finditer(text) for clause in CLAUSE.findall(head[0])]
     types = [text for text in texts if re.search(rf"(trait|struct|enum) {name}\b", text)]
-    return found | {clause for text in types for clause in CLAUSE.findall(text)}
+    return found + [clause for text in types for clause in CLAUSE.findall(text)]
+
+
+def fields_of(text, definitions, seen):
+    """Returns the fields of the records that this text names, by itself or by definitions."""
+    found = set()
+    for name in {*re.findall(r"\w+", text)} - seen & {*definitions}:
+        for is_record, body in definitions.get(name, []):
+            found |= {*FIELD.findall(body)} if is_record else fields_of(body, definitions, seen | {name})
+    return found
 
 
 def heads(text):
@@ -41,13 +54,20 @@ def heads(text):
 
 def missing(page, texts):
     """Returns what a page's tables name and the sources don't have."""
-    words = set(re.findall(r"\w+", "\n".join(texts)))
+    words, definitions = set(re.findall(r"\w+", "\n".join(texts))), {}
+    for _, is_record, name, body in (it for text in texts for it in DEFINITION.findall(text)):
+        definitions.setdefault(name, []).append((is_record, body))
     for row in re.findall(r"^\| .*\|$", page, re.M):
         for cell in row.strip("| ").split(" | ")[1:]:
             for call in CALL.finditer(cell):
                 calls = re.findall(r"`([\w:]+)`", call[0].split(" (")[0])
-                known = {clause for it in calls for clause in clauses_of(it, texts)}
-                yield from (f"{calls[-1]} ({it})" for it in re.findall(r"\w+", call[3]) if it not in known)
+                known = [clause for it in calls for clause in clauses_of(it, texts)]
+                named = re.findall(r"\w+", call[3])
+                yield from (f"{calls[-1]} ({it})" for it in named if it not in {clause for clause, _ in known})
+                cited = " ".join(text for clause, text in known if clause in named)
+                after = CALL.split(cell[call.end():])[0] if cell[call.end():].startswith(":") else ""
+                fields = fields_of(cited, definitions, set()) if after else set()
+                yield from (f"{calls[-1]} ({', '.join(named)}): {it}" for it in re.findall(r"`(\w+)`", after) if it not in fields)
             yield from (it for it in re.findall(r"`([A-Za-z_]\w+)`", cell) if it not in words)
 
 
