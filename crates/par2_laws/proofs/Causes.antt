@@ -1,5 +1,6 @@
 -- Consequences of each result of a repair for the three tests of its set.
-use Rattle.par2_laws.proofs.Common.{◌≡◌, ℕ, List, [], ◌∷◌, true, false, Bool, not, Option, Some, None, arith, list_all, bytes_eq, md5, Fault, NameTooLong, NotRepairable, RepairFailed, first_fault, fault_where, is_repairable, rank, IsRepairable, Folder, ParSet, Target, known, lost, survivors, rebuilt_targets, repairable-iff, may_refuse, repair_refusal}
+use Rattle.par2_laws.proofs.Common.{◌≡◌, ℕ, List, [], ◌∷◌, true, false, Bool, not, not-true, both_ways, Option, Some, None, arith, list_all, bytes_eq, md5, Fault, NameTooLong, NotRepairable, RepairFailed, first_fault, fault_where, is_repairable, rank, IsRepairable, Folder, ParSet, Target, known, lost, survivors, rebuilt_targets, repairable-iff, may_refuse, repair_refusal}
+use Rattle.par2_spec.proofs.RefusedLaws.{first_cause}
 
 -- the refusal: whether the set is repairable, an aside is too long, and the MD5s are right
 abbrev answer : (repairable long right : Bool) (missing rank : ℕ) → Option Fault
@@ -36,6 +37,12 @@ module _ (folder : Folder) (set : ParSet) (searched : List (List ℕ)) where
 
   pub failed_by : repair_refusal folder set searched ≡ Some RepairFailed → IsRepairable missing (survivors set) × (right ≡ false)
   failed_by e = unfold repair_refusal in grind (arith, determined)
+
+  undetermined : (m r : ℕ) → repair_refusal folder set searched ≡ Some (NotRepairable m r) → repairable ≡ false
+  undetermined m r e = unfold repair_refusal in grind (arith, not-true, first_cause)
+
+  pub unrepairable_by : (m r : ℕ) → repair_refusal folder set searched ≡ Some (NotRepairable m r) → IsRepairable missing (survivors set) → ⊥
+  unrepairable_by m r e determined = both_ways repairable (undetermined m r e) ((repairable-iff missing (survivors set)).1 determined)
 
   pub refused_by : (fault : Fault) → (fault ≡ RepairFailed → ⊥) → repair_refusal folder set searched ≡ Some fault → may_refuse fault ≡ true
   refused_by fault never e = unfold repair_refusal in by_few repairable _ right _ _ fault never e

@@ -2,6 +2,7 @@ mod Common
 mod Causes
 mod Checksums
 mod Reading
+mod SurvivingBytes
 mod SetsOfFiles
 mod VolumePackets
 mod VolumeFolders

@@ -4,17 +4,17 @@ use Rattle.std.specs.List.{AllByRecursion}
 use Rattle.std.specs.FinMap as map_of
 use Rattle.par2_spec.specs.Commands.{Command, CreateArgs, Repair}
 use Rattle.par2_spec.specs.Folders.{Folder, File}
-use Rattle.par2_spec.specs.Rank.{AnotherAgrees}
+use Rattle.par2_spec.specs.Rank.{AnotherAgrees, TwoAgree}
 use Rattle.par2_spec.specs.Plans.{AreFewFor}
 use Rattle.par2_spec.specs.Refusals.{set_in, refusal, after}
-use Rattle.par2_spec.specs.Repairs.{HoldsRepaired}
+use Rattle.par2_spec.specs.Repairs.{HoldsRepaired, kept_recovery}
 use Rattle.par2_spec.specs.Search.{candidates, known}
 use Rattle.par2_spec.specs.Sets.{ParSet}
 use Rattle.par2_spec.specs.Volumes.{all_slices}
 use Rattle.par2_spec.specs.declared.Fault.{Fault}
 use Rattle.par2_spec.specs.declared.Fault.TheVariants.{Memory, NotRepairable, RepairFailed}
 use Rattle.par2_laws.specs.Creates.{FollowsCreate, HaveAChoice, may_refuse}
-use Rattle.par2_laws.specs.Premises.{IsTrueTo}
+use Rattle.par2_laws.specs.Premises.{HoldsBytes, IsTrueTo}
 
 -- the result of a call, as the folder that it leaves
 abbrev pub folder_left : {A : Type 0} → (A → Folder) → Result A Fault → Result Folder Fault
@@ -130,3 +130,11 @@ abbrev pub RepairLeavesEachFile : Type 0
 RepairLeavesEachFile =
     (folder left : Folder) (base : List ℕ) (extras : List (List ℕ)) → IsRepaired folder left (Repair base extras false)
     → AreFewFor folder (Repair base extras false) → LeavesEachFile folder base extras left
+
+-- if a repair is refused as not repairable, two lists of slices agree with the known slices and with the recovery slices
+-- of the kept exponents
+abbrev pub RefusedRepairLeavesTwoLists : Type 0
+RefusedRepairLeavesTwoLists =
+    (folder : Folder) (base : List ℕ) (extras : List (List ℕ)) (purge : Bool) (set : ParSet) (missing rank : ℕ)
+    → HoldsBytes folder → set_in folder base extras ≡ Ok set → refusal folder (Repair base extras purge) ≡ Some (NotRepairable missing rank)
+    → let slices = known folder set (candidates folder set extras) in TwoAgree set.slice_size slices (kept_recovery set slices)

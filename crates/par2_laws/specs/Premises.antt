@@ -2,7 +2,7 @@
 use Rattle.std.specs.Prelude.{ℕ, List}
 use Rattle.std.specs.List.{AllByRecursion}
 use Rattle.par2_spec.specs.Rank.{AreBytes}
-use Rattle.par2_spec.specs.Folders.{Folder, File}
+use Rattle.par2_spec.specs.Folders.{Folder, File, files}
 use Rattle.par2_spec.specs.Volumes.{all_slices}
 use Rattle.par2_spec.specs.Sets.{MadeFrom}
 use Rattle.par2_spec.specs.Search.{candidates, NoCollision}
@@ -15,3 +15,7 @@ pub record IsTrueTo (folder : Folder) (base : List ℕ) (extras : List (List ℕ
   pub bytes : AllByRecursion (λ file. AreBytes file.1) originals
   -- a window with the checksums of a slice is that slice
   pub no_collision : NoCollision folder (candidates folder made.set extras) s (all_slices s originals)
+
+-- each file of the folder holds bytes
+abbrev pub HoldsBytes : Folder → Type 0
+HoldsBytes folder = AllByRecursion (λ file. AreBytes file.1) (files folder)

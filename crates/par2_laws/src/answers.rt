@@ -1,7 +1,7 @@
 //! Laws of the result of a repair, whichever call returns it: `plan_repair` of `par2_repair` or `Session::repair` of
 //! `par2_journal`, whose contracts need them. The result is the folder that is left, or a fault.
 
-ghost use Rattle.par2_laws.specs.Answers.{RepairLeavesEachFile, RepairRestoresTheFiles, RepairRestoresTheInputs};
+ghost use Rattle.par2_laws.specs.Answers.{RefusedRepairLeavesTwoLists, RepairLeavesEachFile, RepairRestoresTheFiles, RepairRestoresTheInputs};
 
 /// A repair that returns the result of the definitions restores the files that its set was made from. `RestoresFiles`:
 /// an accepted repair leaves them all, no MD5 is wrong, and it is refused only if other slices agree as well.
@@ -19,4 +19,11 @@ pub fn repair_restores_the_inputs()
 /// were put aside are under their asides, and all others are as before.
 pub fn repair_leaves_each_file()
     ensures { RepairLeavesEachFile }
+{}
+
+/// If a repair is refused as not repairable, whatever files the set was made from, at least two lists of slices agree
+/// with the known slices and with the recovery slices of the kept exponents, even if the surviving recovery slices
+/// contradict each other. Nothing calls it.
+pub fn refused_repair_leaves_two_lists()
+    ensures { RefusedRepairLeavesTwoLists }
 {}
