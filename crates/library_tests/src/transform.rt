@@ -55,7 +55,9 @@ fn are_added(
     }
     let room = ROOM;
     let transform = Transform { gf, slices, room };
-    transform.add_recovery_slices(rt.alloc(), words, first, buffers).expect(rt, "memory");
+    transform
+        .add_recovery_slices(rt.alloc(), words, first, buffers)
+        .expect(rt, "memory");
     true
 }
 

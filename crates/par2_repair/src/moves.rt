@@ -38,9 +38,7 @@ pub struct Moves<'n, 's> {
 fn present(alloc: Global, folder: &Folder, targets: &[Incomplete]) -> Result<Vec<Name>>
     ensures { Lists (names_there folder.now.files targets.now) result }
 {
-    let there = targets
-        .iter()
-        .filter(|incomplete| folder.get(incomplete.target.name()).is_some());
+    let there = targets.iter().filter(|incomplete| folder.get(incomplete.target.name()).is_some());
     let names = there.map(|incomplete| incomplete.target.name().copied());
     names.collect(alloc)
 }

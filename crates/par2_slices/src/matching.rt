@@ -64,7 +64,15 @@ fn have_md5s(compared: Comparison) -> bool
     for group in 0..pairs.len().div_ceil(LANES) {
         let first = group * LANES;
         let count = LANES.min(pairs.len() - first);
-        if !group_has_md5s(SliceGroup { bytes, s, first, count }, pairs) {
+        if !group_has_md5s(
+            SliceGroup {
+                bytes,
+                s,
+                first,
+                count,
+            },
+            pairs,
+        ) {
             return false;
         }
     }

@@ -89,7 +89,12 @@ fn whole_md5s(group: SliceGroup, count: usize) -> [[u8; 16]; LANES]
     requires whole { 1 ≤ count → (group.first + count) * group.s ≤ length group.bytes.now }
     ensures { AreMd5s group.entry.s group.entry.bytes.now group.entry.first count result }
 {
-    let SliceGroup { bytes, s, first, .. } = group;
+    let SliceGroup {
+        bytes,
+        s,
+        first,
+        ..
+    } = group;
     if count == 0 {
         return [[0; 16]; LANES];
     }
@@ -101,7 +106,12 @@ fn whole_md5s(group: SliceGroup, count: usize) -> [[u8; 16]; LANES]
 pub(crate) fn slice_md5s(group: SliceGroup) -> [[u8; 16]; LANES]
     ensures { let its = group.entry in AreMd5s its.s its.bytes.now its.first its.count result }
 {
-    let SliceGroup { bytes, s, first, count } = group;
+    let SliceGroup {
+        bytes,
+        s,
+        first,
+        count,
+    } = group;
     let whole = (bytes.len() as u64 / s) as usize;
     let together = count.min(whole.saturating_sub(first));
     let mut md5s = whole_md5s(group, together);
@@ -117,7 +127,12 @@ fn push_group(pairs: &mut Vec<Pair>, group: SliceGroup) -> Result<()>
     ensures { let its = group.entry in
         OnOk result (pairs.new.items ≡ first_pairs its.s its.bytes.now (its.first + its.count)) }
 {
-    let SliceGroup { bytes, s, first, count } = group;
+    let SliceGroup {
+        bytes,
+        s,
+        first,
+        count,
+    } = group;
     let md5s = slice_md5s(group);
     for k in 0..count {
         pairs.push((md5s[k], slice_crc32(bytes, s, (first + k) as u64)))?;
@@ -135,7 +150,15 @@ pub fn pairs_of(alloc: Global, bytes: &[u8], s: u64) -> Result<Vec<Pair>>
     for group in 0..count.div_ceil(LANES) {
         let first = group * LANES;
         let count = LANES.min(count - first);
-        push_group(&mut pairs, SliceGroup { bytes, s, first, count })?;
+        push_group(
+            &mut pairs,
+            SliceGroup {
+                bytes,
+                s,
+                first,
+                count,
+            },
+        )?;
     }
     Ok(pairs)
 }

@@ -25,9 +25,9 @@ loop-k-preserved c =
         enough = omega (arith, length-set buffers k bytes, held.buffers);
         room = held.room.room;
         each = λ j h. elim (cases_eq j k) [
-            | inl same ↦ rw same (omega (arith, ap length its, c.take.ensures.room))
-            | inr other ↦ omega (arith, ap length (bytes_set_other buffers k j bytes other (omega (arith, h, held.buffers))), held.room.each j h)
-          ];
+          | inl same ↦ rw same (omega (arith, ap length its, c.take.ensures.room))
+          | inr other ↦ omega (arith, ap length (bytes_set_other buffers k j bytes other (omega (arith, h, held.buffers))), held.room.each j h)
+        ];
       };
       leads = λ j none hash last rest h leads.
           elim (cases_lt j k) [
