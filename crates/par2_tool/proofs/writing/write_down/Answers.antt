@@ -106,15 +106,15 @@ returns-clause-written g c =
           let either = rw c.deref.ensures.value at (put.remains (held.honest on) (held.durable on (begun.kept h durable)) left may) in
           ended_remains old journals changes mid made left (begun.written.done h) (all on) either;
       failures = record {
-        later = omega (arith, begun.written.failures.steady, held.steady, c.put_journal.ensures.failures.later);
-        cause = on_err_weaker c.put_journal.result (λ less. omega (arith, less, begun.written.failures.steady, held.steady)) c.put_journal.ensures.failures.cause;
-        steady = on_ok_weaker c.put_journal.result (λ same. same ∙ held.steady ∙ begun.written.failures.steady) c.put_journal.ensures.failures.steady;
+        later = omega (arith, begun.written.failures.steady, held.steady, c.put_journal.ensures.put.failures.later);
+        cause = on_err_weaker c.put_journal.result (λ less. omega (arith, less, begun.written.failures.steady, held.steady)) c.put_journal.ensures.put.failures.cause;
+        steady = on_ok_weaker c.put_journal.result (λ same. same ∙ held.steady ∙ begun.written.failures.steady) c.put_journal.ensures.put.failures.steady;
       };
       possible = λ h applies.
           let all = applies_still g (goal.at.returns-clause-written g c).In_ok-begin h applies in
           c.put_journal.ensures.put.possible ∙ held.possible (begun.written.honest h) all ∙ begun.written.possible h (unfold are_applicable in refl);
       calls =
-          let number = c.put_journal.ensures.counted in
+          let number = c.put_journal.ensures.put.counted in
           record {
             done = any_ok c.put_journal.result _ (omega (arith, number, held.counted, whole, begun.written.calls.done));
             refused = any_err c.put_journal.result _ (record { later = omega (arith, number, held.counted, begun.written.calls.done); within = omega (arith, number, held.counted, whole, begun.written.calls.done) });
