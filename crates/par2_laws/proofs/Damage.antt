@@ -1,13 +1,9 @@
 -- The PAR2 files of a create after damage.
-use Rattle.par2_laws.proofs.Common.{Command, Repair, NotRepairable, may_refuse, ◌≡◌, ℕ, ◌+◌, ◌^◌, ◌<◌, ◌≤◌, true, false, not, ◌&&◌, List, [], ◌∷◌, ◌++◌, length, map, take, Option, None, sym, ap, ◌∙◌, subst, append_assoc, length-append, arith, Bool, Some, refl, inr, ◌⊎◌, unwrap_or, sum_by, nat_lt, ◌==◌, filter, AllByRecursion, list_any, enumerate_from, Contains, IsDistinct, bytes_eq, get-entries, nat_cmp, slice_cmp, not-false, and_parts, or_parts, eqb-true, eqb-false, ltb-false, false≢true, or_from, div_ceil_times, common_steps, length-map, sum_by-cons, Fault, BadSliceSize, BadCount, BadBase, NoInput, BadName, DuplicateInput, NoSuchFile, EmptyFile, TooManySlices, DuplicateId, NameTooLong, Exists, fault_where, fault_at, slice_count, slices, is_name, is_par_name, is_among, distinct, Folder, File, IsFolder, has, bytes_of, files, laid_over, id_of, volume_name, volume_numbers, volume_size, volumes_before, all_slices, in_id_order, volumes, record_of, is_slice_size, MadeFrom, target_of_file, target_names, CreateArgs, Create, files_of, outputs_of, are_counts, is_input_name, refusal, create_refusal, after, AreInputs, IsVolume, IsVolumeOrOther, IsOfOthers, set_id_of, HoldsVolumes, FitsCreate, IsDamage, written_names, FollowsCreate, all_weaker, size_positive, distinct_by_length, same_either_way, std_from_distinct, found_at_key, contained_first, contained_later, all-append, all-parts, all-flat_map, where_none, all_none, at_none, some_if, by_either, names_of_files, at_name, recursion_from_All, filter_passes, same_Some, IsPermutation-sym, IsPermutation-map, map-map, pair_of, Matches, windows, AreBytes, candidates, NoCollision, all-filter, moved-all, moved-ordered, IsTrueTo, accepted_after}
-use Rattle.std.proofs.Math.Seq.{take-append_seam, drop-append_seam}
+use Rattle.par2_laws.proofs.Common.{Command, Repair, NotRepairable, may_refuse, ◌≡◌, ℕ, ◌+◌, ◌^◌, ◌<◌, ◌≤◌, true, false, not, ◌&&◌, List, [], ◌∷◌, ◌++◌, length, map, take, Option, None, sym, ap, ◌∙◌, subst, append_assoc, length-append, arith, Bool, Some, refl, inr, ◌⊎◌, unwrap_or, sum_by, nat_lt, ◌==◌, filter, AllByRecursion, list_any, enumerate_from, Contains, IsDistinct, bytes_eq, get-entries, nat_cmp, slice_cmp, not-false, and_parts, or_parts, eqb-true, eqb-false, ltb-false, false≢true, or_from, div_ceil_times, common_steps, length-map, sum_by-cons, Fault, BadSliceSize, BadCount, BadBase, NoInput, BadName, DuplicateInput, NoSuchFile, EmptyFile, TooManySlices, DuplicateId, NameTooLong, Exists, fault_where, fault_at, slice_count, slices, is_name, is_par_name, is_among, distinct, Folder, File, IsFolder, has, bytes_of, files, laid_over, id_of, volume_name, volume_numbers, volume_size, volumes_before, all_slices, in_id_order, volumes, record_of, is_slice_size, MadeFrom, target_of_file, target_names, CreateArgs, Create, files_of, outputs_of, are_counts, is_input_name, refusal, create_refusal, after, AreInputs, IsVolume, IsVolumeOrOther, IsOfOthers, set_id_of, FitsCreate, IsDamage, written_names, FollowsCreate, all_weaker, size_positive, distinct_by_length, same_either_way, std_from_distinct, found_at_key, contained_first, contained_later, all-append, all-parts, all-flat_map, where_none, all_none, at_none, some_if, by_either, names_of_files, at_name, recursion_from_All, filter_passes, same_Some, IsPermutation-sym, IsPermutation-map, map-map, pair_of, Matches, windows, AreBytes, candidates, NoCollision, all-filter, moved-all, moved-ordered, IsTrueTo, accepted_after, take-append_seam, drop-append_seam, list_any-append, HaveAChoice, all-each, all-map}
 use Rattle.par2_spec.proofs.MovesLaws.{get_put}
-use Rattle.std.proofs.lemmas.List.Folds.{list_any-append}
 use Rattle.std.proofs.Math.Nat.{zero-mul}
 use Rattle.par2_laws.proofs.VolumeFolders.{set_made}
-use Rattle.par2_laws.proofs.Causes.{refused_by}
-use Rattle.par2_laws.proofs.Reading.{reading, leaves_files, never_fails, has_choice}
-use Rattle.par2_laws.specs.Creates.{HaveAChoice}
+use Rattle.par2_laws.proofs.Reading.{reading, leaves_files, never_fails, has_choice, refused_by}
 use Rattle.std.specs.FinMap as map_of
 
 -- ---- tests that find no fault
@@ -43,21 +39,7 @@ tests folder a =
     ∷ []
 
 pub passes : (folder : Folder) (a : CreateArgs) → refusal folder (Create a) ≡ None → Passes folder a
-passes folder a h = unfold refusal create_refusal in
-    let fs = files_of folder a.inputs in
-    let none = all_none (tests folder a) h in
-    let later = none.1.1.1.1 in
-    record {
-      size = not-false (is_slice_size a.slice) (where_none (not (is_slice_size a.slice)) BadSliceSize none.0);
-      counts = not-false (are_counts a.first a.count) (where_none (not (are_counts a.first a.count)) BadCount none.1.0);
-      base = not-false (is_name a.base && is_par_name a.base) (where_none (not (is_name a.base && is_par_name a.base)) BadBase none.1.1.0);
-      names = at_none 1 BadName (λ word. not (is_input_name word)) a.inputs later.0;
-      once = at_none 1 DuplicateInput (λ z. is_among (take z.0 a.inputs) z.1) (enumerate_from 0 a.inputs) later.1.0;
-      there = at_none 1 NoSuchFile (λ word. not (has folder word)) a.inputs later.1.1.0;
-      full = at_none 1 EmptyFile (λ (file : File). length file.1 == 0) fs later.1.1.1.0;
-      slices = where_none (nat_lt 32768 (sum_by (λ file. slice_count a.slice (length file.1)) fs)) TooManySlices later.1.1.1.1.0;
-      ids = where_none (not (length (distinct (map id_of fs)) == length fs)) DuplicateId later.1.1.1.1.1.0;
-    }
+passes folder a h = unfold refusal create_refusal in grind (arith, (all_none (tests folder a) h), not-false, where_none, at_none, is_input_name, id_of)
 
 -- ---- distinct items
 
@@ -74,11 +56,9 @@ each_new front (x ∷ rest) h =
     let two = or_parts (is_among front y) (is_among (x ∷ []) y) (sym (list_any-append (bytes_eq y) front (x ∷ [])) ∙ k) in
     (two.0, (or_parts (bytes_eq y x) false two.1).0)) in
     let longer = front ++ x ∷ [] in
-    let whole : front ++ x ∷ rest ≡ longer ++ rest = sym (append_assoc front (x ∷ []) rest) in
-    let place : length front + 1 ≡ length longer = sym (length-append front (x ∷ [])) in
     let later = each_new longer rest
-    (subst (λ n. AllByRecursion (λ z. is_among (take z.0 (longer ++ rest)) z.1 ≡ false) (enumerate_from n rest)) place
-    (subst (λ all. AllByRecursion (λ z. is_among (take z.0 all) z.1 ≡ false) (enumerate_from (length front + 1) rest)) whole h.1)) in
+    (subst (λ n. AllByRecursion (λ z. is_among (take z.0 (longer ++ rest)) z.1 ≡ false) (enumerate_from n rest)) (sym (length-append front (x ∷ [])))
+    (subst (λ all. AllByRecursion (λ z. is_among (take z.0 all) z.1 ≡ false) (enumerate_from (length front + 1) rest)) (sym (append_assoc front (x ∷ []) rest)) h.1)) in
     let here : is_among front x ≡ false = ap (λ ns. is_among ns x) (sym (take-append_seam front (x ∷ rest))) ∙ h.0 in (
       (here, all_weaker (λ y. is_among longer y ≡ false) (λ y. is_among front y ≡ false) (λ y k. (parts y k).0) rest later.0),
       (all_weaker (λ y. is_among longer y ≡ false) (λ y. bytes_eq x y ≡ false) (λ y k. same_either_way x y ∙ (parts y k).1) rest later.0, later.1),
@@ -90,14 +70,6 @@ file_small : (folder : Folder) → IsFolder folder → (name : List ℕ) → len
 file_small folder whole name =
     subst (λ o. length (unwrap_or o []) < 2 ^ 64) (sym (get-entries folder name))
     (found_at_key (λ bytes. length bytes < 2 ^ 64) (slice_cmp nat_cmp) name [] (files folder) (all_weaker (λ file. (is_name file.0 ≡ true) × (length file.1 < 2 ^ 64)) (λ file. length file.1 < 2 ^ 64) (λ file h. h.1) (files folder) whole) (omega arith))
-
-files_small : (folder : Folder) → IsFolder folder → (inputs : List (List ℕ)) → AllByRecursion (λ file. length file.1 < 2 ^ 64) (files_of folder inputs)
-files_small folder whole [] = tt
-files_small folder whole (name ∷ inputs) = (file_small folder whole name, files_small folder whole inputs)
-
-files_named : (folder : Folder) (inputs : List (List ℕ)) → AllByRecursion (λ word. not (is_input_name word) ≡ false) inputs → AllByRecursion (λ file. is_name file.0 ≡ true) (files_of folder inputs)
-files_named folder [] h = tt
-files_named folder (name ∷ inputs) h = ((and_parts (is_name name) (not (is_par_name name)) (not-false (is_input_name name) h.0)).0, files_named folder inputs h.1)
 
 -- there are at most as many files as slices
 count_small : (s : ℕ) (fs : List File) → 0 < s → AllByRecursion (λ file. (length file.1 == 0) ≡ false) fs → length fs ≤ sum_by (λ file. slice_count s (length file.1)) fs
@@ -114,9 +86,9 @@ inputs_taken folder a accepted fits =
     record {
       slice_size = p.size;
       few = omega (arith, most, few);
-      sizes = files_small folder fits.whole a.inputs;
+      sizes = (all-each _ (λ name. (name, bytes_of folder name)) (file_small folder fits.whole) a.inputs);
       bytes = fits.bytes;
-      names = files_named folder a.inputs p.names;
+      names = (all-map _ _ (λ name. (name, bytes_of folder name)) (λ name k. (and_parts (is_name name) (not (is_par_name name)) (not-false (is_input_name name) k)).0) a.inputs p.names);
       names_once = subst (IsDistinct bytes_eq) (sym (names_of_files folder a.inputs)) (each_new [] a.inputs p.once).1;
       ids_once = std_from_distinct (map id_of fs) (distinct_by_length (map id_of fs) (ids ∙ sym (length-map fs id_of)));
       slices = most;
@@ -158,14 +130,11 @@ module _ (before damaged : Folder) (a : CreateArgs) (base : List ℕ) (accepted 
   is_there : (name : List ℕ) → is_par_name name ≡ true → has damaged name ≡ true → map_of.get (laid_over (outputs_of before a) before) name ≡ Some (bytes_of damaged name)
   is_there name par there = unfold after in sym (damage.pars name par there) ∙ some_if [] (map_of.get damaged name) there
 
-  is_volume_or_other : (name : List ℕ) → is_par_name name ≡ true → has damaged name ≡ true → IsVolumeOrOther a.slice inputs (bytes_of damaged name)
-  is_volume_or_other name par there = grind (arith, by_either, laid_cases, is_there, written, unwrap_or)
-
   none_there : (name : List ℕ) → has damaged name ≡ false → IsOfOthers (set_id_of a.slice inputs) (bytes_of damaged name)
   none_there name h = unfold accepted_after in grind arith
 
   each_par : (name : List ℕ) → is_par_name name ≡ true → IsVolumeOrOther a.slice inputs (bytes_of damaged name)
-  each_par name par = grind (arith, is_volume_or_other, none_there)
+  each_par name par = grind (arith, by_either, laid_cases, is_there, written, none_there)
 
   base_written : Contains (bytes_in (outputs_of before a)) (bytes_of damaged base)
   base_written =
@@ -174,11 +143,8 @@ module _ (before damaged : Folder) (a : CreateArgs) (base : List ℕ) (accepted 
       (λ i. i)
       (λ r. absurd (false≢true (sym r.0 ∙ damage.written)))
 
-  holds_volumes : HoldsVolumes damaged base a.slice inputs
-  holds_volumes = grind (arith, written, base_written, all_weaker, each_par, and_parts, recursion_from_All, filter_passes)
-
   pub set_of_files : MadeFrom damaged base (in_id_order inputs) a.slice
-  set_of_files = set_made damaged base a.slice inputs (inputs_taken before a accepted fits) holds_volumes
+  set_of_files = set_made damaged base a.slice inputs (inputs_taken before a accepted fits) (grind (arith, written, base_written, all_weaker, each_par, and_parts, recursion_from_All, filter_passes))
 
 -- ---- searched files
 
@@ -215,14 +181,11 @@ module _ (before damaged : Folder) (a : CreateArgs) (base : List ℕ) (extras : 
   abbrev searched : List (List ℕ)
   searched = candidates damaged m.set extras
 
-  names_are : target_names m.set ≡ map (λ file. file.0) ordered
-  names_are = ap (map (λ t. t.name)) m.targets ∙ target_names_are s ordered
-
   among_searched : (P : List ℕ → Type 0) → AllByRecursion P (a.inputs ++ extras) → AllByRecursion P searched
   among_searched P h =
       let r = all-parts P a.inputs extras h in
       let mine : AllByRecursion P (target_names m.set) =
-      subst (AllByRecursion P) (sym names_are)
+      subst (AllByRecursion P) (sym (ap (map (λ t. t.name)) m.targets ∙ target_names_are s ordered))
       (moved-all P (map (λ file. file.0) given) (map (λ file. file.0) ordered) (IsPermutation-map (λ file. file.0) given ordered (moved-ordered given)) (subst (AllByRecursion P) (sym (names_of_files before a.inputs)) r.0)) in
       all_distinct P (filter (has damaged) (target_names m.set) ++ extras)
       (all-append P (filter (has damaged) (target_names m.set)) extras (all-filter P (has damaged) (target_names m.set) mine) r.1)
@@ -263,9 +226,8 @@ module _ (before damaged : Folder) (a : CreateArgs) (base : List ℕ) (extras : 
   -- a repair is refused for few causes
   pub few_causes : (purge : Bool) (fault : Fault) → refusal damaged (repair purge) ≡ Some fault → may_refuse fault ≡ true
   few_causes purge fault refused =
-      let never = never_fails damaged base extras ordered s originals purge in
       by_either (reading damaged base extras purge m.set m.reads)
-      (λ read. refused_by damaged m.set searched fault (λ e. never (refused ∙ ap (λ f. Some f) e)) (sym read.1 ∙ refused))
+      (λ read. refused_by damaged m.set searched fault (λ e. (never_fails damaged base extras ordered s originals purge) (refused ∙ ap (λ f. Some f) e)) (sym read.1 ∙ refused))
       (λ absent. let reported = sym absent.1 ∙ refused in cc)
 
   pub leaves_choice : (purge : Bool) (missing rank : ℕ) → refusal damaged (repair purge) ≡ Some (NotRepairable missing rank) → HaveAChoice before damaged a base extras

@@ -1,6 +1,4 @@
 mod Common
-mod Causes
-mod Checksums
 mod Reading
 mod SurvivingBytes
 mod SetsOfFiles

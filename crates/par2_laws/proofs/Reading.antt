@@ -1,13 +1,56 @@
 -- The set that a repair reads, and the files that it was made from.
-use Rattle.par2_laws.proofs.Common.{ℕ, ◌<◌, ◌%◌, List, Bool, true, false, ◌≡◌, ◌⊎◌, inl, inr, sym, ◌∙◌, refl, arith, Ok, Err, None, Some, list_all, both_ways, and_parts, by_either, NoSuchFile, NotRepairable, RepairFailed, Folder, File, ParSet, has, set_of, set_in, candidates, known, lost, survivors, IsRepairable, Repair, refusal, repair_refusal, after, rebuilt_targets, IsTrueTo}
+use Rattle.par2_laws.proofs.Common.{ℕ, ◌<◌, ◌%◌, List, Bool, true, false, ◌≡◌, ◌⊎◌, inl, inr, sym, ◌∙◌, refl, arith, Ok, Err, None, Some, list_all, both_ways, and_parts, by_either, NoSuchFile, NotRepairable, RepairFailed, Folder, File, ParSet, has, set_of, set_in, candidates, known, lost, survivors, IsRepairable, Repair, refusal, repair_refusal, after, rebuilt_targets, IsTrueTo, made_size, purged_files, repaired_files, right_digests, present_searched, after_repair, after_repair_and_purge, [], ◌∷◌, not, not-true, Option, bytes_eq, md5, Fault, NameTooLong, first_fault, fault_where, is_repairable, rank, Target, repairable-iff, may_refuse}
 use Rattle.par2_spec.proofs.AcceptedCommands.{missing, in_full, in_part, set_in_reads}
-use Rattle.par2_spec.proofs.FilesLaws.{made_size, purged_files, repaired_files, right_digests}
-use Rattle.par2_spec.proofs.ReadLaws.{present_searched}
-use Rattle.par2_spec.proofs.RefusedLaws.{another_choice}
+use Rattle.par2_spec.proofs.RefusedLaws.{another_choice, first_cause}
 use Rattle.par2_spec.proofs.RepairLaws.{Fits, targets_fit}
-use Rattle.par2_spec.specs.Repairs.{after_repair, after_repair_and_purge}
-use Rattle.par2_laws.specs.Answers.{HasFiles, OthersAgree}
-use Rattle.par2_laws.proofs.Causes.{accepted_by, failed_by, has_digest}
+use Rattle.par2_spec.specs.RepairLaws.{HasFiles, OthersAgree}
+
+-- the refusal: whether the set is repairable, an aside is too long, and the MD5s are right
+abbrev answer : (repairable long right : Bool) (missing rank : ℕ) → Option Fault
+answer repairable long right missing rank =
+    first_fault (
+    fault_where (not repairable) (NotRepairable missing rank)
+    ∷ fault_where long NameTooLong
+    ∷ fault_where (not right) RepairFailed
+    ∷ [])
+
+by_few : (repairable long right : Bool) (m r : ℕ) (fault : Fault) → (fault ≡ RepairFailed → ⊥) → answer repairable long right m r ≡ Some fault → may_refuse fault ≡ true
+by_few true false false m r fault never e = absurd (never (cc))
+by_few repairable long right m r fault never e = cc
+
+-- a file that is written has its MD5
+abbrev pub has_digest : Target × List ℕ → Bool
+has_digest c = bytes_eq (md5 c.1) c.0.md5
+
+module _ (folder : Folder) (set : ParSet) (searched : List (List ℕ)) where
+  abbrev lost_slices : List ℕ
+  lost_slices = lost (known folder set searched)
+
+  abbrev repairable : Bool
+  repairable = is_repairable lost_slices (survivors set)
+
+  abbrev all_right : Bool
+  all_right = list_all has_digest (rebuilt_targets folder set searched)
+
+  determined : (repairable ≡ true) → IsRepairable lost_slices (survivors set)
+  determined = (repairable-iff lost_slices (survivors set)).0
+
+  pub accepted_by : repair_refusal folder set searched ≡ None → IsRepairable lost_slices (survivors set)
+  accepted_by e = unfold repair_refusal in grind (arith, determined)
+
+  pub failed_by : repair_refusal folder set searched ≡ Some RepairFailed → IsRepairable lost_slices (survivors set) × (all_right ≡ false)
+  failed_by e = unfold repair_refusal in grind (arith, determined)
+
+  undetermined : (m r : ℕ) → repair_refusal folder set searched ≡ Some (NotRepairable m r) → repairable ≡ false
+  undetermined m r e = unfold repair_refusal in grind (arith, not-true, first_cause)
+
+  pub unrepairable_by : (m r : ℕ) → repair_refusal folder set searched ≡ Some (NotRepairable m r) → IsRepairable lost_slices (survivors set) → ⊥
+  unrepairable_by m r e determined = both_ways repairable (undetermined m r e) ((repairable-iff lost_slices (survivors set)).1 determined)
+
+  pub refused_by : (fault : Fault) → (fault ≡ RepairFailed → ⊥) → repair_refusal folder set searched ≡ Some fault → may_refuse fault ≡ true
+  refused_by fault never e = unfold repair_refusal in by_few repairable _ all_right _ _ fault never e
+
+-- ---- the set that is read
 
 -- a set that is read is that of the base, in a folder with these files
 pub read_of : (folder : Folder) (base : List ℕ) (extras : List (List ℕ)) (set : ParSet) → set_in folder base extras ≡ Ok set → (set_of folder base ≡ Ok set) × (list_all (has folder) extras ≡ true)

@@ -1,8 +1,24 @@
 -- A set whose packets are those of known files was made from them.
-use Rattle.par2_laws.proofs.Common.{◌≡◌, ℕ, ◌<◌, ◌^◌, false, List, [], ◌∷◌, ◌++◌, length, map, Some, refl, sym, ap, ◌∙◌, subst, arith, Bool, true, Option, None, inl, inr, ◌⊎◌, ◌&&◌, Ok, IsTrue, ◌==◌, nat_lt, filter_map, find, slice_get, option_map, option_and_then, if◌then◌else◌, flat_map, AllByRecursion, Contains, list_any, range_with_len, IsDistinct, length-map, recursion_from_All, All-contains_itself, same_Some, none-some, length-md5, Kind, Main, FileDesc, Ifsc, Recovery, Creator, Other, AreBytes, File, Folder, bytes_of, Packet, MainBody, DescBody, IfscBody, RecoveryBody, accepted, read_main, read_desc, read_ifsc, read_recovery, FileRecord, all_slices, main_bytes, desc_bytes, ifsc_bytes, recovery_bytes, id_of, record_of, packets_of, AreDescribed, is_read, IsOf, AreAllOf, all-append, of_contained, all-map, all-filter_map, found_one, all_unmap, all-passing, all-flat_map-map, bytes_eq, false≢true, and_parts, eqb-true, map-map, md5, Pair, pair_of, slice_count, slice_at, slices, Target, all_some, main_of, description_of, pairs_of, target_of, recovery_of, target_of_file, ParSet, MadeFrom, packets_with, read_set, other_par_names, set_of, all_weaker, all-filter, mapped, target_with, no_slices, all-entries, read_by, same_name, itself, main_reads, ifsc_reads, desc_reads, by_either, common_steps}
-use Rattle.par2_spec.specs.Recovery.{recovery}
-use Rattle.par2_laws.proofs.Checksums.{pairs_are}
+use Rattle.par2_laws.proofs.Common.{by_test, ◌≡◌, ℕ, ◌<◌, ◌^◌, false, List, [], ◌∷◌, ◌++◌, length, map, Some, refl, sym, ap, ◌∙◌, subst, arith, true, Option, None, inl, inr, ◌⊎◌, ◌&&◌, Ok, IsTrue, ◌==◌, nat_lt, filter_map, find, slice_get, option_map, option_and_then, if◌then◌else◌, flat_map, AllByRecursion, Contains, list_any, range_with_len, IsDistinct, length-map, recursion_from_All, All-contains_itself, same_Some, none-some, length-md5, Kind, Main, FileDesc, Ifsc, Recovery, Creator, Other, AreBytes, File, Folder, bytes_of, Packet, MainBody, DescBody, IfscBody, RecoveryBody, accepted, read_main, read_desc, read_ifsc, read_recovery, FileRecord, all_slices, main_bytes, desc_bytes, ifsc_bytes, recovery_bytes, id_of, record_of, packets_of, AreDescribed, is_read, IsOf, AreAllOf, all-append, of_contained, all-map, all-filter_map, found_one, all_unmap, all-passing, all-flat_map-map, bytes_eq, false≢true, and_parts, eqb-true, map-map, md5, Pair, pair_of, slice_count, slice_at, slices, Target, all_some, main_of, description_of, pairs_of, target_of, recovery_of, target_of_file, ParSet, MadeFrom, packets_with, read_set, other_par_names, set_of, all_weaker, all-filter, mapped, target_with, no_slices, all-entries, read_by, same_name, itself, main_reads, ifsc_reads, desc_reads, by_either, common_steps, recovery, all-each, all-both, zero, suc, ◌+◌, ◌*◌, ◌/◌, ◌%◌, bit_xor, fold, crc_step, crc_steps, crc_byte, IsPair, crc32, xor_lt}
 use Rattle.std.specs.FinMap as map_of
+use Rattle.par2_spec.proofs.RestoredLaws.{bytes-slice_at}
+
+steps_small : (n c : ℕ) → c < 2 ^ 32 → crc_steps n c < 2 ^ 32
+steps_small zero c h = h
+steps_small (suc n) c h = steps_small n (crc_step c) (xor_lt 32 (c / 2) (c % 2 * 0xEDB88320) (omega (arith, h)) (omega arith))
+
+fold_small : (bytes : List ℕ) (c : ℕ) → AreBytes bytes → c < 2 ^ 32 → fold crc_byte c bytes < 2 ^ 32
+fold_small [] c h low = low
+fold_small (b ∷ bytes) c h low = fold_small bytes (crc_byte c b) h.1 (steps_small 8 (bit_xor c b) (xor_lt 32 c b low (omega (arith, h.0))))
+
+pairs_at : (s : ℕ) (content : List ℕ) (a n : ℕ) → AreBytes content → AllByRecursion IsPair (map pair_of (map (slice_at s content) (range_with_len a n)))
+unfolding crc32
+pairs_at s content a zero h = tt
+pairs_at s content a (suc n) h = grind (arith, common_steps, length-md5, bytes-slice_at, xor_lt, fold_small, pairs_at s content (a + 1) n h)
+
+-- the checksums of a file's slices
+pub pairs_are : (s : ℕ) (bytes : List ℕ) → AreBytes bytes → AllByRecursion IsPair (map pair_of (slices s bytes))
+pairs_are s bytes h = pairs_at s bytes 0 (slice_count s (length bytes)) h
 
 -- ---- properties of each item
 
@@ -29,14 +45,13 @@ all_say s files e small =
     let main : Kind × List ℕ = (Main, main_bytes s (map (record_of s) files)) in
     all-append P ((main ∷ descs) ++ ifscs) ((Recovery, recovery_bytes e (recovery s (all_slices s files) e)) ∷ [])
     (all-append P (main ∷ descs) ifscs
-    (refl, each FileDesc desc_bytes (λ file i. (file, i, refl)) files (all_contained files))
-    (each Ifsc ifsc_bytes (λ file i. (file, i, refl)) files (all_contained files)))
+    (refl, each FileDesc desc_bytes (λ file i. (file, i, refl)))
+    (each Ifsc ifsc_bytes (λ file i. (file, i, refl))))
     ((e, small, refl), tt)
   where
     each : (kind : Kind) (body : FileRecord → List ℕ) → ((file : File) → Contains files file → Says s files kind (body (record_of s file)))
-        → (some : List File) → AllByRecursion (Contains files) some → AllByRecursion (λ z. Says s files z.0 z.1) (map (λ file. let z : Kind × List ℕ = (kind, body file) in z) (map (record_of s) some))
-    each kind body says [] h = tt
-    each kind body says (file ∷ some) h = (says file h.0, each kind body says some h.1)
+        → AllByRecursion (λ z. Says s files z.0 z.1) (map (λ file. let z : Kind × List ℕ = (kind, body file) in z) (map (record_of s) files))
+    each kind body says = all-map (λ file. Says s files kind (body file)) _ (λ file. (kind, body file)) (λ file h. h) (map (record_of s) files) (all-map _ _ (record_of s) says files (all_contained files))
 
 -- a packet of the files has the body of one of their packets
 pub packet_says : (s : ℕ) (files : List File) (p : Packet) → (IsTrue (is_read p.kind) → IsOf s files p) → Says s files p.kind p.body
@@ -64,17 +79,12 @@ pub record IsDescribed (file : File) : Type 0 where
   pub name : list_any (λ b. b == 0) file.0 ≡ false
 
 pub each_described : (s : ℕ) (files : List File) → AreDescribed s files → AllByRecursion IsDescribed files
-each_described s files d = three files d.sizes d.bytes d.names
-  where
-    three : (some : List File) → AllByRecursion (λ file. length file.1 < 2 ^ 64) some → AllByRecursion (λ file. AreBytes file.1) some
-        → AllByRecursion (λ file. list_any (λ b. b == 0) file.0 ≡ false) some → AllByRecursion IsDescribed some
-    three [] a b c = tt
-    three (file ∷ some) a b c = (record { size = a.0; bytes = b.0; name = c.0 }, three some a.1 b.1 c.1)
+each_described s files d =
+    all-both (λ file. (length file.1 < 2 ^ 64) × AreBytes file.1) _ IsDescribed (λ file h k. record { size = h.0; bytes = h.1; name = k }) files
+    (all-both _ _ _ (λ file h k. (h, k)) files d.sizes d.bytes) d.names
 
 ids_sixteen : (s : ℕ) (files : List File) → AllByRecursion (λ file. length file.id ≡ 16) (map (record_of s) files)
-unfolding record_of
-ids_sixteen s [] = tt
-ids_sixteen s (file ∷ files) = (length-md5 _, ids_sixteen s files)
+ids_sixteen s files = unfold record_of in all-each (λ file. length file.id ≡ 16) (record_of s) (λ file. length-md5 _) files
 
 pub main_written : (s : ℕ) (files : List File) → AreDescribed s files → read_main Main (main_bytes s (map (record_of s) files)) ≡ Some (main_of_files s files)
 main_written s files d = unfold main_of_files in grind (arith, main_reads, length-map, ids_sixteen)
@@ -156,10 +166,6 @@ one_by_id (x ∷ files) d a b i j e =
 
 -- ---- steps of reading a set
 
--- an empty file has no slices
-no_pairs : (s : ℕ) (bytes : List ℕ) → length bytes ≡ 0 → map pair_of (slices s bytes) ≡ []
-no_pairs s bytes e = ap (λ n. map pair_of (map (slice_at s bytes) (range_with_len 0 n))) (ap (slice_count s) e ∙ no_slices s)
-
 -- looking up the File IDs of a Main is looking up those of the files
 pub by_ids : {B : Type 0} (look : List ℕ → B) (s : ℕ) (files : List File) → map look (main_of_files s files).ids ≡ map (λ file. look (id_of file)) files
 unfolding main_of_files record_of
@@ -183,19 +189,14 @@ module _ (s : ℕ) (files : List File) (d : AreDescribed s files) (packets : Lis
       read p = if bytes_eq (md5 p.body) id then read_main p.kind p.body else None
 
       each : (p : Packet) → Says s files p.kind p.body → (x : MainBody) → read p ≡ Some x → x ≡ main_of_files s files
-      each p says x h = step (bytes_eq (md5 p.body) id) h
-        where
-          step : (b : Bool) → (if b then read_main p.kind p.body else None) ≡ Some x → x ≡ main_of_files s files
-          step true k = main_said s files d p.kind p.body says x k
-          step false k = absurd (none-some x k)
+      each p says x h = by_test (bytes_eq (md5 p.body) id) (λ e. main_said s files d p.kind p.body says x (rw e at h)) (λ e. absurd (none-some x (rw e at h)))
 
   -- the description of a file, if there is one
   pub description_is : (file : File) → Contains files file → (x : DescBody) → description_of packets (id_of file) ≡ Some x → x ≡ desc_of_file s file
   description_is file i x e = unfold desc_of_file record_of in
       let found = found_one (IsOfOne (desc_of_file s) files) (λ c. bytes_eq c.id (id_of file)) (filter_map (λ p. read_desc p.kind p.body) packets)
       (all-filter_map (λ p. Says s files p.kind p.body) (IsOfOne (desc_of_file s) files) (λ p. read_desc p.kind p.body) (λ p says. desc_said s files d p.kind p.body says) packets say) x e in
-      let named : id_of found.0.0 ≡ id_of file = ap (λ c. c.id) (sym found.0.2) ∙ same_name x.id (id_of file) found.1 in
-      found.0.2 ∙ ap (desc_of_file s) (one_by_id files d.ids_once found.0.0 file found.0.1 i named)
+      found.0.2 ∙ ap (desc_of_file s) (one_by_id files d.ids_once found.0.0 file found.0.1 i (ap (λ c. c.id) (sym found.0.2) ∙ same_name x.id (id_of file) found.1))
 
   -- its checksums, if they are there
   pub pairs_are_its : (file : File) → Contains files file → (n : ℕ) (ps : List Pair) → pairs_of packets (id_of file) n ≡ Some ps → ps ≡ (record_of s file).pairs
@@ -210,13 +211,13 @@ module _ (s : ℕ) (files : List File) (d : AreDescribed s files) (packets : Lis
   pub target_is : (file : File) → Contains files file → (t : Target) → target_of packets s (desc_of_file s file) ≡ Some t → t ≡ target_of_file s file
   unfolding desc_of_file record_of
   target_is file i t e =
-      let n = length file.1 in
-      let got = mapped (target_with (desc_of_file s file)) (if n == 0 then Some [] else pairs_of packets (id_of file) (slice_count s n)) t e in
-      sym got.2 ∙ ap (target_with (desc_of_file s file)) (its (n == 0) refl got.0 got.1)
+      let got = mapped (target_with (desc_of_file s file)) (if (length file.1) == 0 then Some [] else pairs_of packets (id_of file) (slice_count s (length file.1))) t e in
+      sym got.2 ∙ ap (target_with (desc_of_file s file)) (its got.0 got.1)
     where
-      its : (b : Bool) → (length file.1 == 0) ≡ b → (ps : List Pair) → (if b then Some [] else pairs_of packets (id_of file) (slice_count s (length file.1))) ≡ Some ps → ps ≡ (record_of s file).pairs
-      its true z ps k = sym (same_Some [] ps k) ∙ sym (no_pairs s file.1 (eqb-true (length file.1) 0 z))
-      its false z ps k = pairs_are_its file i (slice_count s (length file.1)) ps k
+      its : (ps : List Pair) → (if length file.1 == 0 then Some [] else pairs_of packets (id_of file) (slice_count s (length file.1))) ≡ Some ps → ps ≡ (record_of s file).pairs
+      its ps k = by_test (length file.1 == 0)
+          (λ z. sym (same_Some [] ps (rw z at k)) ∙ sym (ap (λ n. map pair_of (map (slice_at s file.1) (range_with_len 0 n))) (ap (slice_count s) (eqb-true (length file.1) 0 z) ∙ no_slices s)))
+          (λ z. pairs_are_its file i (slice_count s (length file.1)) ps (rw z at k))
 
   -- the descriptions of all files
   pub descriptions_are : (ds : List DescBody) → all_some (map (description_of packets) (main_of_files s files).ids) ≡ Some ds → ds ≡ map (desc_of_file s) files

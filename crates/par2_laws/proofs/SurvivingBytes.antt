@@ -1,28 +1,11 @@
 -- What survives of a set is bytes of its folder's files, so the laws of such bytes hold of it.
-use Rattle.par2_laws.proofs.Common.{ℕ, zero, suc, ◌<◌, List, [], ◌∷◌, length, map, arith, ◌≡◌, sym, subst, refl, inl, inr, drop, ap, ◌∙◌, cond, false, Bool, ◌&&◌, unwrap_or, Ok, Option, Some, None, flat_map, slice_get, Result, Err, nat_lt, ◌==◌, if◌then◌else◌, AllByRecursion, range_with_len, Pair, AreBytes, get-entries, nat_cmp, slice_cmp, windows, Folder, bytes_of, ParSet, packets_with, recovery_of, other_par_names, all_some, is_slice_size, main_of, description_of, are_in_profile, target_of, set_of, read_set, found_one, found_at_key, all-flat_map, all-filter_map, all-map, Fault, accepted, Packet, RecoveryBody, accepted_after, read_recovery, bytes_eq, all-filter, all-entries, all_weaker, known, by_either, candidates}
-use Rattle.par2_laws.specs.Premises.{HoldsBytes}
-use Rattle.par2_spec.proofs.FilesLaws.{size_even}
-use Rattle.par2_spec.proofs.ReadLaws.{sound_of}
-use Rattle.par2_spec.proofs.ListsLaws.{all-each, all-take, all-drop, all-both}
-use Rattle.par2_spec.proofs.TestLaws.{T-parts}
-use Rattle.par2_spec.specs.Packets.{begins_with_packet, claimed_length}
-use Rattle.par2_spec.specs.Packets.{first_packet}
-use Rattle.par2_spec.specs.Rank.{AreSurvivors}
-use Rattle.par2_spec.specs.Sets.{IsSound}
-use Rattle.par2_spec.specs.Windows.{window, is_match, found}
-use Rattle.std.proofs.Common.{◌-◌, T}
-use Rattle.std.proofs.lemmas.Bool.{cases_Bool}
-use Rattle.std.specs.FinMap.{is_sorted, entries_sorted}
-use Rattle.std.specs.Ordering.{eq_by_cmp, is_lt, is_eq}
+use Rattle.par2_laws.proofs.Common.{ℕ, zero, suc, ◌<◌, List, [], ◌∷◌, length, map, arith, ◌≡◌, sym, subst, drop, ap, ◌∙◌, cond, false, Bool, ◌&&◌, unwrap_or, Ok, Some, flat_map, nat_lt, ◌==◌, if◌then◌else◌, AllByRecursion, range_with_len, Pair, AreBytes, get-entries, nat_cmp, slice_cmp, windows, Folder, bytes_of, ParSet, packets_with, recovery_of, other_par_names, set_of, found_one, found_at_key, all-flat_map, all-filter_map, all-map, accepted, Packet, RecoveryBody, accepted_after, read_recovery, bytes_eq, all-filter, all-entries, all_weaker, known, by_either, candidates, HoldsBytes, size_even, sound_of, all-each, all-take, all-drop, all-both, T-parts, begins_with_packet, claimed_length, first_packet, AreSurvivors, IsSound, window, is_match, found, ◌-◌, T, is_sorted, entries_sorted, eq_by_cmp, is_lt, is_eq, ForSome, below_all, nat_cmp_total, read_by}
 use Rattle.std.specs.FinMap.{find}
 use Rattle.par2_spec.proofs.RestoredLaws.{length-window, bytes-window}
-use Rattle.std.specs.Option.{ForSome}
-use Rattle.std.specs.FinMap.Entries.{below_all}
-use Rattle.std.specs.Cmp.{nat_cmp_total, tied_itself}
+use Rattle.std.specs.Cmp.{tied_itself}
 use Rattle.std.specs.FinMap as map_of
-use Rattle.par2_laws.proofs.Causes.{unrepairable_by}
-use Rattle.par2_laws.proofs.Reading.{read_of, reading}
-use Rattle.par2_laws.specs.Answers.{RefusedRepairLeavesTwoLists}
+use Rattle.par2_laws.proofs.Reading.{read_of, reading, unrepairable_by}
+use Rattle.par2_spec.specs.RepairLaws.{RefusedRepairLeavesTwoLists}
 use Rattle.par2_spec.proofs.ExistLaws.{two_agree}
 use Rattle.par2_spec.proofs.RefusedLaws.{size_two}
 
@@ -56,40 +39,6 @@ found_is folder searched s held pair =
 -- each known slice is a buffer of the slice size
 pub known_are : (folder : Folder) (set : ParSet) (searched : List (List ℕ)) → HoldsBytes folder → AllByRecursion (λ slice. ForSome slice (IsSliceBytes set.slice_size)) (known folder set searched)
 known_are folder set searched held = unfold known in search (arith, all-each, found_is)
-
--- ---- the result of reading a set: a set whose recovery slices are those of packets, or a fault
-
--- the recovery slices are those of packets in these files, with one Recovery Set ID
-abbrev pub IsOfPackets : List (List ℕ) → ParSet → Type 0
-IsOfPackets buffers set = (id : List ℕ) × (set.recovery ≡ recovery_of (packets_with id (flat_map accepted buffers)) set.slice_size)
-
-abbrev pub IsAnswer : List (List ℕ) → Result ParSet Fault → Type 0
-IsAnswer buffers (Ok set) = IsOfPackets buffers set
-IsAnswer buffers (Err fault) = Unit {0}
-
-by_option : {A goal : Type 0} (o : Option A) → (o ≡ None → goal) → ((x : A) → o ≡ Some x → goal) → goal
-by_option o absent there = grind arith
-
-read_set_answers : (base : List ℕ) (others : List (List ℕ)) → IsAnswer (base ∷ others) (read_set base others)
-read_set_answers base others = unfold read_set in
-    by_option (slice_get (accepted base) 0) (λ e. rw e tt) (λ first e.
-    let packets = packets_with first.set_id (flat_map accepted (base ∷ others)) in
-    rw e (by_option (main_of first.set_id packets) (λ k. rw k tt) (λ main k.
-    rw k (elim (cases_Bool (is_slice_size main.slice_size)) [
-      | inr bad ↦ rw bad tt
-      | inl good ↦
-          rw good (by_option (all_some (map (description_of packets) main.ids)) (λ l. rw l tt) (λ described l.
-          rw l (elim (cases_Bool (are_in_profile main.slice_size described)) [
-            | inr out ↦ rw out tt
-            | inl within ↦
-                rw within (by_option (all_some (map (target_of packets main.slice_size) described)) (λ m. rw m tt) (λ targets m.
-                rw m (first.set_id, refl)))
-          ])))
-    ]))))
-
--- the result for a folder and a base
-pub set_of_answers : (folder : Folder) (base : List ℕ) (answer : Result ParSet Fault) → set_of folder base ≡ answer → IsAnswer (map (bytes_of folder) (base ∷ other_par_names folder base)) answer
-set_of_answers folder base answer is = unfold set_of in grind (arith, read_set_answers)
 
 -- ---- packets
 
@@ -147,40 +96,26 @@ each_has_its_own set = search (arith, all_weaker, get-entries, own_values, entri
 
 -- the recovery slices of a set that is read are bytes, if the folder's files are
 pub recovery_of_bytes : (folder : Folder) (base : List ℕ) (set : ParSet) → HoldsBytes folder → set_of folder base ≡ Ok set → AllByRecursion (λ e. AreBytes e.1) (map_of.entries set.recovery)
-recovery_of_bytes folder base set held reads =
+recovery_of_bytes folder base set held reads = unfold set_of in
     let names = base ∷ other_par_names folder base in
     let buffers = map (bytes_of folder) names in
-    let read = set_of_answers folder base (Ok set) reads in
+    let read = read_by (bytes_of folder base) (map (bytes_of folder) (other_par_names folder base)) set reads in
     let in_buffers = all-each (λ bytes. AllByRecursion HasBytes (accepted bytes)) (bytes_of folder) (λ name. packets_have 0 (bytes_of folder name) (bytes_of_file folder name held)) names in
     let in_packets = all-flat_map (λ bytes. AllByRecursion HasBytes (accepted bytes)) HasBytes accepted (λ bytes all. all) buffers in_buffers in
-    let kept = all-filter HasBytes (λ p. bytes_eq p.set_id read.0) (flat_map accepted buffers) in_packets in
-    subst (λ recovery. AllByRecursion IsOfBytes (map_of.entries recovery)) (sym read.1) (recovery_has (packets_with read.0 (flat_map accepted buffers)) set.slice_size kept)
+    let kept = all-filter HasBytes (λ p. bytes_eq p.set_id read.id) (flat_map accepted buffers) in_packets in
+    subst (λ s. AllByRecursion IsOfBytes (map_of.entries s.recovery)) read.made (recovery_has (packets_with read.id (flat_map accepted buffers)) read.main.slice_size kept)
 
 -- ---- in a folder whose files hold bytes, the survivors of a sound set are buffers of the slice size
-
-sizes_of : (s : ℕ) (ks : List (Option (List ℕ))) → AllByRecursion (λ slice. ForSome slice (IsSliceBytes s)) ks → AllByRecursion (λ slice. ForSome slice (λ found. length found ≡ s)) ks
-sizes_of s ks h = all_weaker (λ slice. ForSome slice (IsSliceBytes s)) (λ slice. ForSome slice (λ found. length found ≡ s)) (λ slice bytes found is. (bytes found is).0) ks h
-
-bytes_of_each : (s : ℕ) (ks : List (Option (List ℕ))) → AllByRecursion (λ slice. ForSome slice (IsSliceBytes s)) ks → AllByRecursion (λ slice. ForSome slice AreBytes) ks
-bytes_of_each s ks h = all_weaker (λ slice. ForSome slice (IsSliceBytes s)) (λ slice. ForSome slice AreBytes) (λ slice bytes found is. (bytes found is).1) ks h
-
-module _ (set : ParSet) where
-  slice_of_bytes : AllByRecursion (λ e. AreBytes e.1) (map_of.entries set.recovery) → (e : ℕ) → AreBytes (recovery_slice set e)
-  slice_of_bytes h e = subst (λ o. AreBytes (unwrap_or o [])) (sym (get-entries set.recovery e)) (found_at_key AreBytes nat_cmp e [] (map_of.entries set.recovery) h tt)
-
-  each_slice : (rs : List (ℕ × List ℕ)) → AllByRecursion (λ r. (r.0 < 65536) × (length r.1 ≡ set.slice_size)) rs → AllByRecursion (λ r. map_of.get set.recovery r.0 ≡ Some r.1) rs
-      → AllByRecursion (λ r. (r.0 < 65536) × (length r.1 ≡ set.slice_size) × (recovery_slice set r.0 ≡ r.1)) rs
-  each_slice rs sizes own = grind (arith, all-both, unwrap_or)
 
 pub survivors_are : (folder : Folder) (base : List ℕ) (set : ParSet) (searched : List (List ℕ)) → IsSound set → HoldsBytes folder → set_of folder base ≡ Ok set
     → AreSurvivors set.slice_size 65536 (known folder set searched) (map_of.entries set.recovery) (recovery_slice set)
 survivors_are folder base set searched sound held reads =
     let found = known_are folder set searched held in record {
       even = size_even set.slice_size sound.size;
-      known_sizes = sizes_of set.slice_size (known folder set searched) found;
-      known_bytes = bytes_of_each set.slice_size (known folder set searched) found;
-      bytes = slice_of_bytes set (recovery_of_bytes folder base set held reads);
-      each = each_slice set (map_of.entries set.recovery) sound.recovery (each_has_its_own set);
+      known_sizes = all_weaker _ _ (λ slice are y is. (are y is).0) (known folder set searched) found;
+      known_bytes = all_weaker _ _ (λ slice are y is. (are y is).1) (known folder set searched) found;
+      bytes = λ e. subst (λ o. AreBytes (unwrap_or o [])) (sym (get-entries set.recovery e)) (found_at_key AreBytes nat_cmp e [] (map_of.entries set.recovery) (recovery_of_bytes folder base set held reads) tt);
+      each = all-both _ _ _ (λ r size own. (size.0, size.1, ap (λ o. unwrap_or o []) own)) (map_of.entries set.recovery) sound.recovery (each_has_its_own set);
     }
 
 -- if a repair is refused as not repairable, two lists of slices agree with what survives

@@ -1,5 +1,5 @@
 -- A folder of volumes has the set that was made from their files.
-use Rattle.par2_laws.proofs.Common.{◌≡◌, ℕ, suc, ◌<◌, Bool, true, false, cond, ◌&&◌, List, [], ◌∷◌, ◌++◌, length, map, Option, Some, None, refl, sym, ap, ◌∙◌, subst, inl, inr, arith, ◌⊎◌, append_assoc, Ok, ◌==◌, filter, filter_map, find, slice_get, option_map, flat_map, ok_or, sum_by, AllByRecursion, Contains, slice_index_or, bytes_eq, false≢true, and_from, eq-eqb, le-leb, length-map, Contains-append_left, Contains-append_right, same_Some, map-map, Kind, Main, FileDesc, Ifsc, Creator, slice_count, File, Folder, bytes_of, Packet, IfscBody, read_desc, read_ifsc, accepted, DescBody, FileRecord, id_of, packet_of, main_id, main_bytes, desc_bytes, ifsc_bytes, creator_bytes, in_id_order, record_of, index_packets, packets_with, main_of, description_of, pairs_of, target_of, target_of_file, all_some, ParSet, MadeFrom, unless, are_in_profile, other_par_names, read_set, set_of, AreDescribed, all_weaker, test_from_all, itself, distinct_same, distinct_from_std, contained_first, contained_later, of_contained, all-map, target_with, set_with, finished, by_checksums, by_profile, by_descriptions, by_size, by_main, sum_by-cons, NoPackets, NoMain, NoDescription, NoChecksums, BadSet, is_name, AreInputs, IsVolume, set_id_of, IsOfOthers, HoldsVolumes, moved-ordered, by_either, common_steps, ◌>>=◌}
+use Rattle.par2_laws.proofs.Common.{◌≡◌, ℕ, suc, ◌<◌, Bool, true, false, cond, ◌&&◌, List, [], ◌∷◌, ◌++◌, length, map, Option, Some, None, refl, sym, ap, ◌∙◌, subst, inl, inr, arith, ◌⊎◌, append_assoc, Ok, ◌==◌, filter, filter_map, find, slice_get, option_map, flat_map, sum_by, AllByRecursion, Contains, slice_index_or, bytes_eq, false≢true, and_from, eq-eqb, le-leb, length-map, Contains-append_left, Contains-append_right, same_Some, map-map, Kind, Main, FileDesc, Ifsc, Creator, slice_count, File, Folder, bytes_of, Packet, IfscBody, read_desc, read_ifsc, accepted, DescBody, FileRecord, id_of, packet_of, main_id, main_bytes, desc_bytes, ifsc_bytes, creator_bytes, in_id_order, record_of, index_packets, packets_with, main_of, description_of, pairs_of, target_of, target_of_file, all_some, ParSet, MadeFrom, are_in_profile, other_par_names, read_set, set_of, AreDescribed, all_weaker, test_from_all, itself, distinct_same, distinct_from_std, contained_first, contained_later, of_contained, all-map, target_with, set_with, sum_by-cons, is_name, AreInputs, IsVolume, set_id_of, IsOfOthers, HoldsVolumes, moved-ordered, by_either, common_steps}
 use Rattle.par2_laws.proofs.SetsOfFiles.{all_contained, IsDescribed, each_described, main_of_files, desc_of_file, ifsc_of_file, main_written, desc_written, ifsc_written, AllSay, contained_cases, by_ids, description_is, pairs_are_its, target_is, SaysIfOurs, folder_says, made_if_said}
 use Rattle.par2_laws.proofs.VolumePackets.{pairs_count, index_of, moved, described, slices_of, IsReadAs, volumes_read, IsOurs, volume_ours}
 
@@ -66,25 +66,15 @@ module _ (s : ℕ) (files : List File) (d : AreDescribed s files) (tail : List P
   among_each : (kind : Kind) (body : FileRecord → List ℕ) (file : File) → Contains files file → Contains (of_each kind body) (packet_of id kind (body (record_of s file)))
   among_each kind body file i = contained_map (λ (r : FileRecord). packet_of id kind (body r)) (map (record_of s) files) (record_of s file) (contained_map (record_of s) files file i)
 
-  desc_there : (file : File) → Contains files file → Contains packets (packet_of id FileDesc (desc_bytes (record_of s file)))
-  desc_there file i = unfold index_packets in
-      let p = packet_of id FileDesc (desc_bytes (record_of s file)) in
+  -- the packets of the files are among them
+  is_there : (p : Packet) → Contains (of_each FileDesc desc_bytes) p ⊎ Contains (of_each Ifsc ifsc_bytes) p → p.set_id ≡ id → Contains packets p
+  is_there p i own = unfold index_packets in
       let main = packet_of id Main (main_bytes s (map (record_of s) files)) in
-      let descs = of_each FileDesc desc_bytes in
+      let descs = main ∷ of_each FileDesc desc_bytes in
       let ifscs = of_each Ifsc ifsc_bytes in
-      of_index p
-      (Contains-append_left ((main ∷ descs) ++ ifscs) (packet_of id Creator creator_bytes ∷ []) p
-      (Contains-append_left (main ∷ descs) ifscs p (contained_later main descs p (among_each FileDesc desc_bytes file i)))) refl
-
-  ifsc_there : (file : File) → Contains files file → Contains packets (packet_of id Ifsc (ifsc_bytes (record_of s file)))
-  ifsc_there file i = unfold index_packets in
-      let p = packet_of id Ifsc (ifsc_bytes (record_of s file)) in
-      let main = packet_of id Main (main_bytes s (map (record_of s) files)) in
-      let descs = of_each FileDesc desc_bytes in
-      let ifscs = of_each Ifsc ifsc_bytes in
-      of_index p
-      (Contains-append_left ((main ∷ descs) ++ ifscs) (packet_of id Creator creator_bytes ∷ []) p
-      (Contains-append_right (main ∷ descs) ifscs p (among_each Ifsc ifsc_bytes file i))) refl
+      of_index p (Contains-append_left (descs ++ ifscs) (packet_of id Creator creator_bytes ∷ []) p (by_either i
+      (λ desc. Contains-append_left descs ifscs p (contained_later main (of_each FileDesc desc_bytes) p desc))
+      (λ ifsc. Contains-append_right descs ifscs p ifsc))) own
 
   is_described : (file : File) → Contains files file → IsDescribed file
   is_described file i = of_contained IsDescribed files file (each_described s files d) i
@@ -94,14 +84,14 @@ module _ (s : ℕ) (files : List File) (d : AreDescribed s files) (tail : List P
     description_found : (file : File) → Contains files file → description_of packets (id_of file) ≡ Some (desc_of_file s file)
     description_found file i = unfold desc_of_file record_of in
         let found = some_found (λ (p : Packet). read_desc p.kind p.body) (λ x. bytes_eq x.id (id_of file)) packets (packet_of id FileDesc (desc_bytes (record_of s file))) (desc_of_file s file)
-        (desc_there file i) (desc_written s file (is_described file i)) (itself (id_of file)) in
+        (is_there _ (inl (among_each FileDesc desc_bytes file i)) refl) (desc_written s file (is_described file i)) (itself (id_of file)) in
         found.1 ∙ ap (λ x. Some x) (description_is s files d packets say file i found.0 found.1)
 
     pairs_found : (file : File) → Contains files file → pairs_of packets (id_of file) (slice_count s (length file.1)) ≡ Some (record_of s file).pairs
     pairs_found file i = unfold ifsc_of_file record_of in
         let n = slice_count s (length file.1) in
         let found = some_found (λ (p : Packet). read_ifsc p.kind p.body) (λ x. bytes_eq x.id (id_of file) && length x.pairs == n) packets (packet_of id Ifsc (ifsc_bytes (record_of s file))) (ifsc_of_file s file)
-        (ifsc_there file i) (ifsc_written s file (is_described file i)) (and_from _ _ (itself (id_of file)) (eq-eqb _ n (pairs_count s file.1))) in
+        (is_there _ (inr (among_each Ifsc ifsc_bytes file i)) refl) (ifsc_written s file (is_described file i)) (and_from _ _ (itself (id_of file)) (eq-eqb _ n (pairs_count s file.1))) in
         let these = ap (option_map (λ (c : IfscBody). c.pairs)) found.1 in
         these ∙ ap (λ ps. Some ps) (pairs_are_its s files d packets say file i n found.0.pairs these)
 
@@ -146,20 +136,11 @@ base_reads s files is base others r say = unfold read_set index_packets main_of_
     let id = main_id s (map (record_of s) files) in
     let d = described s files is in
     let tail = slices_of s files r.first r.count ++ flat_map accepted others in
-    let main : Packet = packet_of id Main (main_bytes s (map (record_of s) files)) in
-    let m = main_of_files s files in
     let all = packets_with id (flat_map accepted (base ∷ others)) in
-    let same : all ≡ packets_with id (index_of s files ++ tail) =
-    ap (λ ps. packets_with id (ps ++ flat_map accepted others)) r.packets
-    ∙ ap (packets_with id) (append_assoc (index_of s files) (slices_of s files r.first r.count) (flat_map accepted others)) in
+    let same : all ≡ packets_with id (index_of s files ++ tail) = grind (arith, r.packets, (append_assoc (index_of s files) (slices_of s files r.first r.count) (flat_map accepted others))) in
     let said = subst (AllSay s files) same say in
-    let first : slice_get (accepted base) 0 ≡ Some main = ap (λ ps. slice_get ps 0) r.packets in
-    ap (λ o. ok_or o NoPackets >>= by_main base others) first
-    ∙ ap (λ o. ok_or o NoMain >>= by_size id all) (ap (main_of id) same ∙ main_there s files d tail)
-    ∙ ap (λ b. unless b BadSet >>= by_descriptions id all m) is.slice_size
-    ∙ ap (λ o. ok_or o NoDescription >>= by_profile id all s) (ap (λ ps. all_some (map (description_of ps) m.ids)) same ∙ descriptions_found s files d tail said)
-    ∙ ap (λ b. unless b BadSet >>= by_checksums id all s (map (desc_of_file s) files)) (in_profile s files is)
-    ∙ ap (λ o. ok_or o NoChecksums >>= finished id all s) (ap (λ ps. all_some (map (target_of ps s) (map (desc_of_file s) files))) same ∙ targets_found s files d tail said)
+    let first : slice_get (accepted base) 0 ≡ Some (packet_of id Main (main_bytes s (map (record_of s) files))) = ap (λ ps. slice_get ps 0) r.packets in
+    grind (arith, first, same, (main_there s files d tail), is.slice_size, (descriptions_found s files d tail said), (in_profile s files is), (targets_found s files d tail said))
 
 -- ---- a folder of volumes
 

@@ -1,11 +1,8 @@
 -- The packets that are read from a volume are those that were written.
-use Rattle.par2_laws.proofs.Common.{◌≡◌, ℕ, ◌^◌, ◌<◌, ◌≤◌, true, false, List, [], ◌∷◌, length, map, sym, ◌∙◌, subst, arith, zero, suc, ◌+◌, min, ◌&&◌, ◌++◌, refl, ap, append-nil, IsTrue, IsPermutation, sum_by, ◌==◌, flat_map, nat_le, AllByRecursion, list_any, range_with_len, Contains, bytes_eq, not-true, leb-true, and_parts, length-map, sum_by-cons, IsPermutation-map, sum_by-IsPermutation, length_permutation, length-md5, pair_of, slice_count, slice_at, slices, is_name, AreBytes, File, IsFileRecord, id_of, FileRecord, all_slices, in_id_order, volumes_before, volume_size, volume_numbers, recovery_packets, packet_of, main_id, main_bytes, desc_bytes, ifsc_bytes, creator_bytes, record_of, volumes, index_packets, AreDescribed, AreInputs, IsVolume, all-map, all-append, of_contained, all_weaker, moved-all, same_either_way, size_parts, flat_map-append, common_steps, Kind, Main, FileDesc, Ifsc, Creator, Packet, packet, accepted, are_counts, index_reads, recovery_slices_read}
-use Rattle.std.proofs.lemmas.List.FromFn.{length-range_with_len}
-use Rattle.std.proofs.lemmas.Map.Keys.{IsDistinct-IsPermutation}
-use Rattle.par2_laws.proofs.Checksums.{pairs_are}
+use Rattle.par2_laws.proofs.Common.{◌≡◌, ℕ, ◌^◌, ◌<◌, ◌≤◌, true, false, List, [], ◌∷◌, length, map, sym, ◌∙◌, subst, arith, zero, suc, ◌+◌, min, ◌&&◌, ◌++◌, refl, append-nil, IsTrue, IsPermutation, sum_by, ◌==◌, flat_map, nat_le, AllByRecursion, list_any, range_with_len, Contains, bytes_eq, not-true, leb-true, and_parts, length-map, sum_by-cons, IsPermutation-map, sum_by-IsPermutation, length_permutation, length-md5, pair_of, slice_count, slice_at, slices, is_name, AreBytes, File, IsFileRecord, id_of, FileRecord, all_slices, in_id_order, volumes_before, volume_size, volume_numbers, recovery_packets, packet_of, main_id, main_bytes, desc_bytes, ifsc_bytes, creator_bytes, record_of, volumes, index_packets, AreDescribed, AreInputs, IsVolume, all-map, all-append, of_contained, all_weaker, moved-all, same_either_way, size_parts, flat_map-append, common_steps, Kind, Main, FileDesc, Ifsc, Creator, Packet, packet, accepted, index_reads, recovery_slices_read, length-range_with_len, IsDistinct-IsPermutation, all-each, all-both}
 use Rattle.par2_spec.proofs.NameTests.{tests_of}
 use Rattle.par2_spec.proofs.WrittenPackets.{none_short}
-use Rattle.par2_laws.proofs.SetsOfFiles.{Says, all_contained}
+use Rattle.par2_laws.proofs.SetsOfFiles.{Says, all_contained, pairs_are}
 
 -- ---- files in another order
 
@@ -25,9 +22,7 @@ moved s files others m is = record {
 
 -- a name is short and has no NUL byte
 name_parts : (name : List ℕ) → is_name name ≡ true → (length name ≤ 255) × (list_any (λ b. b == 0) name ≡ false)
-name_parts name h =
-    let t = tests_of name h in
-    (leb-true (length name) 255 t.short, not-true (list_any (λ b. b == 0) name) t.no_zero)
+name_parts name h = grind (arith, (tests_of name h), leb-true, not-true)
 
 -- each part of a sum is at most the sum
 each_below : {A : Type 0} (f : A → ℕ) (xs : List A) (n : ℕ) → sum_by f xs ≤ n → AllByRecursion (λ x. f x ≤ n) xs
@@ -35,47 +30,28 @@ each_below f [] n h = tt
 each_below f (x ∷ xs) n h = let e = sum_by-cons f x xs in (omega (arith, e, h), each_below f xs n (omega (arith, e, h)))
 
 -- one file that a create accepts
-record IsInput (s : ℕ) (file : File) : Type 0 where
-  size : length file.1 < 2 ^ 64
-  bytes : AreBytes file.1
-  name : is_name file.0 ≡ true
-  few : slice_count s (length file.1) ≤ 32768
-
-each_input : (s : ℕ) (files : List File) → AllByRecursion (λ file. length file.1 < 2 ^ 64) files → AllByRecursion (λ file. AreBytes file.1) files
-    → AllByRecursion (λ file. IsTrue (is_name file.0)) files → AllByRecursion (λ file. slice_count s (length file.1) ≤ 32768) files → AllByRecursion (IsInput s) files
-each_input s [] a b c d = tt
-each_input s (file ∷ files) a b c d = (record { size = a.0; bytes = b.0; name = c.0; few = d.0 }, each_input s files a.1 b.1 c.1 d.1)
+abbrev IsInput : ℕ → File → Type 0
+IsInput s file = ((length file.1 < 2 ^ 64) × AreBytes file.1) × (IsTrue (is_name file.0) × (slice_count s (length file.1) ≤ 32768))
 
 inputs_are : (s : ℕ) (files : List File) → AreInputs s files → AllByRecursion (IsInput s) files
-inputs_are s files is = each_input s files is.sizes is.bytes is.names (each_below (λ file. slice_count s (length file.1)) files 32768 is.slices)
+inputs_are s files is =
+    all-both _ _ (IsInput s) (λ file h k. (h, k)) files (all-both _ _ (λ file. (length file.1 < 2 ^ 64) × AreBytes file.1) (λ file h k. (h, k)) files is.sizes is.bytes)
+    (all-both _ _ (λ file. IsTrue (is_name file.0) × (slice_count s (length file.1) ≤ 32768)) (λ file h k. (h, k)) files is.names (each_below (λ file. slice_count s (length file.1)) files 32768 is.slices))
 
 -- there are as many checksums as slices
 pub pairs_count : (s : ℕ) (bytes : List ℕ) → length (map pair_of (slices s bytes)) ≡ slice_count s (length bytes)
 pairs_count s bytes = length-map (slices s bytes) pair_of ∙ length-map (range_with_len 0 (slice_count s (length bytes))) (slice_at s bytes) ∙ length-range_with_len 0 (slice_count s (length bytes))
 
 record_fits : (s : ℕ) (file : File) → IsInput s file → IsFileRecord (record_of s file)
-record_fits s file is = unfold record_of in
-    let name = name_parts file.0 is.name in
-    let count = pairs_count s file.1 in
-    record {
-      id = length-md5 _;
-      md5 = length-md5 _;
-      md5_16k = length-md5 _;
-      size = is.size;
-      name = name.1;
-      name_size = omega (arith, name.0);
-      pairs = pairs_are s file.1 is.bytes;
-      pairs_size = omega (arith, count, is.few);
-    }
+record_fits s file is = unfold record_of in grind (arith, (name_parts file.0 is.1.0), (pairs_count s file.1), length-md5, pairs_are)
 
 pub records_fit : (s : ℕ) (files : List File) → AreInputs s files → AllByRecursion IsFileRecord (map (record_of s) files)
 records_fit s files is = all-map (IsInput s) IsFileRecord (record_of s) (record_fits s) files (inputs_are s files is)
 
 pub described : (s : ℕ) (files : List File) → AreInputs s files → AreDescribed s files
 described s files is =
-    let small = (size_parts s is.slice_size).2 in
     record {
-      slice_size = omega (arith, small);
+      slice_size = omega (arith, (size_parts s is.slice_size).2);
       few = is.few;
       sizes = is.sizes;
       bytes = is.bytes;
@@ -111,34 +87,19 @@ module _ (s : ℕ) (files : List File) (is : AreInputs s files) where
   index_read = grind (arith, common_steps, append-nil, index_reads, few_records, records_fit, empty_read)
 
   slices_read : (e n : ℕ) → accepted (flat_map packet (slices_of s files e n)) ≡ slices_of s files e n
-  slices_read e n =
-      let size = size_parts s is.slice_size in
-      ap accepted (sym (append-nil (flat_map packet (slices_of s files e n))))
-      ∙ recovery_slices_read s (main_id s (map (record_of s) files)) (all_slices s files) e n [] (length-md5 (main_bytes s (map (record_of s) files))) size.0 (omega (arith, size.2))
-      ∙ ap (λ ps. slices_of s files e n ++ ps) empty_read ∙ append-nil (slices_of s files e n)
-
-  both_read : (e n : ℕ) → accepted (flat_map packet (index_of s files ++ slices_of s files e n)) ≡ index_of s files ++ slices_of s files e n
-  both_read e n = grind (arith, flat_map-append, index_reads, few_records, records_fit, slices_read)
+  slices_read e n = grind (arith, (size_parts s is.slice_size), (append-nil (flat_map packet (slices_of s files e n))), recovery_slices_read, length-md5, empty_read, (append-nil (slices_of s files e n)))
 
   volume_read : (f c i : ℕ) → f + c ≤ 65536 → IsReadAs s files (flat_map packet (index_of s files ++ slices_of s files (f + volumes_before i) (volume_size c i)))
-  volume_read f c i small = grind (arith, both_read, min)
-
-  each_volume : (f c : ℕ) (names : ℕ → List ℕ) (is : List ℕ) → f + c ≤ 65536
-      → AllByRecursion (IsReadAs s files) (map (λ file. file.1) (map (λ i. let v : File = (names i, flat_map packet (index_of s files ++ slices_of s files (f + volumes_before i) (volume_size c i))) in v) is))
-  each_volume f c names [] small = tt
-  each_volume f c names (i ∷ is) small = (volume_read f c i small, each_volume f c names is small)
-
-counts_end : (f c : ℕ) → are_counts f c ≡ true → f + c ≤ 65536
-counts_end f c h = leb-true (f + c) 65536 (and_parts (nat_le c 65536 && nat_le f 65535) (nat_le (f + c) 65536) h).1
+  volume_read f c i small = grind (arith, flat_map-append, index_reads, few_records, records_fit, slices_read, min)
 
 -- each volume of the files is read as its packets
 pub volumes_read : (s : ℕ) (files : List File) → AreInputs s (in_id_order files) → (bytes : List ℕ) → IsVolume s files bytes → IsReadAs s (in_id_order files) bytes
 volumes_read s files is bytes v = unfold volumes in
-    let small = counts_end v.1 v.2 v.3 in
+    let small = (leb-true (v.1 + v.2) 65536 (and_parts (nat_le v.2 65536 && nat_le v.1 65535) (nat_le (v.1 + v.2) 65536) v.3).1) in
     let first : IsReadAs s (in_id_order files) (flat_map packet (index_of s (in_id_order files))) =
     record { first = 0; count = 0; low = λ k l. absurd (omega (arith, l)); packets = index_read s (in_id_order files) is } in
     of_contained (IsReadAs s (in_id_order files)) (map (λ file. file.1) (volumes v.0 s v.1 v.2 files)) bytes
-    (first, each_volume s (in_id_order files) is v.1 v.2 _ (volume_numbers v.2) small) v.4
+    (first, all-map (λ (file : File). IsReadAs s (in_id_order files) file.1) _ (λ file. file.1) (λ file h. h) _ (all-each _ _ (λ i. volume_read s (in_id_order files) is v.1 v.2 i small) (volume_numbers v.2))) v.4
 
 -- ---- the contents of the packets
 
@@ -154,10 +115,8 @@ module _ (s : ℕ) (files : List File) where
   abbrev of_each : Kind → (FileRecord → List ℕ) → List File → List Packet
   of_each kind body some = map (λ file. packet_of id kind (body file)) (map (record_of s) some)
 
-  each_ours : (kind : Kind) (body : FileRecord → List ℕ) → ((file : File) → Contains files file → Says s files kind (body (record_of s file)))
-      → (some : List File) → AllByRecursion (Contains files) some → AllByRecursion IsOurs (of_each kind body some)
-  each_ours kind body says [] h = tt
-  each_ours kind body says (file ∷ some) h = ((refl, says file h.0), each_ours kind body says some h.1)
+  each_ours : (kind : Kind) (body : FileRecord → List ℕ) → ((file : File) → Contains files file → Says s files kind (body (record_of s file))) → AllByRecursion IsOurs (of_each kind body files)
+  each_ours kind body says = all-map (λ file. Says s files kind (body file)) IsOurs (λ file. packet_of id kind (body file)) (λ file h. (refl, h)) (map (record_of s) files) (all-map _ _ (record_of s) says files (all_contained files))
 
   index_ours : AllByRecursion IsOurs (index_of s files)
   index_ours = unfold index_packets in
@@ -166,8 +125,8 @@ module _ (s : ℕ) (files : List File) where
       let ifscs = of_each Ifsc ifsc_bytes files in
       all-append IsOurs ((main ∷ descs) ++ ifscs) (packet_of id Creator creator_bytes ∷ [])
       (all-append IsOurs (main ∷ descs) ifscs
-      ((refl, refl), each_ours FileDesc desc_bytes (λ file i. (file, i, refl)) files (all_contained files))
-      (each_ours Ifsc ifsc_bytes (λ file i. (file, i, refl)) files (all_contained files)))
+      ((refl, refl), each_ours FileDesc desc_bytes (λ file i. (file, i, refl)))
+      (each_ours Ifsc ifsc_bytes (λ file i. (file, i, refl))))
       ((refl, tt), tt)
 
   slices_ours : (e n : ℕ) → ((k : ℕ) → k < n → e + k < 65536) → AllByRecursion IsOurs (slices_of s files e n)

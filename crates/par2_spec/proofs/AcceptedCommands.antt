@@ -42,8 +42,7 @@ repair_of : (folder : Folder) (base : List ℕ) (extras : List (List ℕ)) (purg
 repair_of folder base extras purge few (Err fault) e = nothing_leads folder
 repair_of folder base extras purge few (Ok set) e =
     let reads = set_in_reads folder base extras set e in
-    repair_of_set folder set (candidates folder set extras) purge
-    (fits_of folder base set extras reads.0 (and_parts (has folder base) (list_all (has folder) extras) reads.1).1 (few set reads.0))
+    grind (arith, (repair_of_set folder set (candidates folder set extras) purge (fits_of folder base set extras reads.0 (and_parts (has folder base) (list_all (has folder) extras) reads.1).1 (few set reads.0))))
 
 purge_of : (folder : Folder) (r : Result ParSet Fault) → Leads folder (by_set [] (purge_changes folder) r) (by_set folder (after_purge folder) r)
 purge_of folder (Err fault) = nothing_leads folder

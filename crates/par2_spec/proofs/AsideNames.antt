@@ -30,9 +30,7 @@ before_last_dot (b ∷ bytes) = cut_here (b == 46) b (before_last_dot bytes)
 
 no_dot : (bytes : List ℕ) → is_dotless bytes ≡ true → before_last_dot bytes ≡ None
 no_dot [] h = refl
-no_dot (b ∷ bytes) h =
-    let r = and_parts (not (b == 46)) (is_dotless bytes) h in
-    ap (cut_here (b == 46) b) (no_dot bytes r.1) ∙ ap (λ t. cut_here t b None) (not-true (b == 46) r.0)
+no_dot (b ∷ bytes) h = grind (arith, (and_parts (not (b == 46)) (is_dotless bytes) h), (no_dot bytes (and_parts (not (b == 46)) (is_dotless bytes) h).1), (not-true (b == 46) (and_parts (not (b == 46)) (is_dotless bytes) h).0))
 
 one_dot : (name bytes : List ℕ) → is_dotless bytes ≡ true → before_last_dot (name ++ 46 ∷ bytes) ≡ Some name
 one_dot [] bytes h = ap (cut_here true 46) (no_dot bytes h)
@@ -42,14 +40,10 @@ pub numbered_is : (name : List ℕ) (n : ℕ) → numbered name n ≡ name ++ 46
 numbered_is name n = append_assoc name (codes ".") (decimal n)
 
 pub numbered_name : (a b : List ℕ) (m n : ℕ) → m < 2 ^ 64 → n < 2 ^ 64 → numbered a m ≡ numbered b n → a ≡ b
-numbered_name a b m n h k e =
-    ap (λ o. unwrap_or o a)
-    (sym (one_dot a (decimal m) (dotless_decimal m h)) ∙ ap before_last_dot (sym (numbered_is a m) ∙ e ∙ numbered_is b n) ∙ one_dot b (decimal n) (dotless_decimal n k))
+numbered_name a b m n h k e = grind (arith, (one_dot a (decimal m) (dotless_decimal m h)), (numbered_is a m), (numbered_is b n), (one_dot b (decimal n) (dotless_decimal n k)))
 
 pub numbered_number : (a : List ℕ) (m n : ℕ) → m < 2 ^ 64 → n < 2 ^ 64 → numbered a m ≡ numbered a n → m ≡ n
-numbered_number a m n h k e =
-    decimal_injective m n h k
-    (sym (drop-append_seam (a ++ codes ".") (decimal m)) ∙ ap (drop (length (a ++ codes "."))) e ∙ drop-append_seam (a ++ codes ".") (decimal n))
+numbered_number a m n h k e = grind (arith, (decimal_injective m n h k (sym (drop-append_seam (a ++ codes ".") (decimal m)) ∙ ap (drop (length (a ++ codes "."))) e ∙ drop-append_seam (a ++ codes ".") (decimal n))))
 
 -- ---- the first numbered name that passes a test
 
@@ -90,9 +84,7 @@ one_is_free name taken few =
     let numbers : List (List ℕ) = map (numbered name) (range_with_len 1 (length taken + 1)) in
     let too_many : length numbers ≤ length taken → ⊥ =
     λ h. (let e : length numbers ≡ length taken + 1 = length-map-range_with_len (numbered name) 1 (length taken + 1) in omega (arith, e, h)) in
-    by_either (cases_Bool (is_some (find free numbers)))
-    (λ h. h)
-    (λ h. absurd (too_many (length-le_from_is_member nat_list_eq_equiv numbers taken (std_from_distinct numbers (numbered_once name 1 (length taken + 1) (omega (arith, few)))) (λ q i. not-false (is_among taken q) (none_passes free numbers h q i)))))
+    grind (arith, (cases_Bool (is_some (find free numbers))), length-le_from_is_member, nat_list_eq_equiv, std_from_distinct, numbered_once, not-false, none_passes)
 
 -- ---- asides
 
@@ -104,31 +96,13 @@ aside_is folder set name few = unfold aside in
     (r.0, r.1, ap (λ o. unwrap_or o []) r.2)
 
 pub aside_out : (folder : Folder) (set : ParSet) (name : List ℕ) → AreFew folder set → is_among (taken_for folder set) (aside folder set name) ≡ false
-aside_out folder set name few =
-    let r = aside_is folder set name few in
-    subst (λ x. is_among (taken_for folder set) x ≡ false) (sym r.2) (not-true (is_among (taken_for folder set) (numbered name r.0)) r.1.passes)
+aside_out folder set name few = grind (arith, (aside_is folder set name few), (not-true (is_among (taken_for folder set) (numbered name (aside_is folder set name few).0)) (aside_is folder set name few).1.passes))
 
 pub aside_one : (folder : Folder) (set : ParSet) (a b : List ℕ) → AreFew folder set → aside folder set a ≡ aside folder set b → a ≡ b
-aside_one folder set a b few e =
-    let r = aside_is folder set a few in
-    let s = aside_is folder set b few in
-    let low : r.0 < 1 + (length (taken_for folder set) + 1) = r.1.below in
-    let high : s.0 < 1 + (length (taken_for folder set) + 1) = s.1.below in
-    numbered_name a b r.0 s.0 (omega (arith, low, few)) (omega (arith, high, few)) (sym r.2 ∙ e ∙ s.2)
+aside_one folder set a b few e = grind (arith, (aside_is folder set a few), (aside_is folder set b few), numbered_name)
 
 pub aside_least : (folder : Folder) (set : ParSet) (name : List ℕ) → AreFew folder set → IsLeastFree (taken_for folder set) name (aside folder set name)
-aside_least folder set name few =
-    let r = aside_is folder set name few in
-    record {
-      number = r.0;
-      positive = r.1.from;
-      spelled = r.2;
-      free = aside_out folder set name few;
-      least = λ m low high. not-false (is_among (taken_for folder set) (numbered name m)) (r.1.none_before m low high);
-    }
-
-no_empty_name : is_name [] ≡ false
-no_empty_name = unfold is_name in refl
+aside_least folder set name few = grind (arith, (aside_is folder set name few), aside_out, not-false)
 
 -- an aside is no target's name, even if no number is free
 pub aside_no_target : (folder : Folder) (set : ParSet) (name : List ℕ) → list_all is_name (target_names set) ≡ true → is_among (target_names set) (aside folder set name) ≡ false
@@ -142,7 +116,7 @@ aside_no_target folder set name are_names = step (find free numbers) (found_pass
     numbers = map (numbered name) (range_with_len 1 (length (taken_for folder set) + 1))
 
     step : (o : Option (List ℕ)) → ((q : List ℕ) → o ≡ Some q → (is_among numbers q ≡ true) × (free q ≡ true)) → is_among (target_names set) (unwrap_or o []) ≡ false
-    step None h = no_name (target_names set) [] are_names no_empty_name
+    step None h = no_name (target_names set) [] are_names (unfold is_name in refl)
     step (Some q) h = (or_parts _ _ (sym (among-append (names folder) (target_names set) q) ∙ not-true _ (h q refl).1)).1
 
 -- a byte below the digits is not a digit
@@ -164,10 +138,6 @@ front_of_name (b ∷ front) (c ∷ name) rest h k =
     and_from _ _ r.0 (front_of_name front name rest (and_parts (not (b == 46)) _ h).1 r.1)
 front_of_name front name rest h k = grind arith
 
--- the same for a prefix with a dot as its first byte only
-front_of_numbered : (front name rest : List ℕ) → is_dotless front ≡ true → 0 < length name → starts_with nat_eq (name ++ 46 ∷ rest) (46 ∷ front) ≡ true → starts_with nat_eq name (46 ∷ front) ≡ true
-front_of_numbered front name rest h l k = grind (arith, and_parts, and_from, front_of_name)
-
 pub longer : (name other : List ℕ) → length other < length name → bytes_eq name other ≡ false
 longer name other h = other_name name other (λ e. let same : length name ≡ length other = ap length e in absurd (omega (arith, same, h)))
 
@@ -175,7 +145,6 @@ pub numbered_is_name : (name : List ℕ) (n : ℕ) → n < 2 ^ 64 → is_name na
 numbered_is_name name n small h short =
     let t = tests_of name h in
     let some : 1 ≤ length name = leb-true 1 (length name) t.some in
-    let digits : 0 < length (decimal n) = decimal_nonempty n small in
     let long : length (numbered name n) ≡ length name + suc (length (decimal n)) = ap length (numbered_is name n) ∙ length-append name (46 ∷ decimal n) in
     name_of (numbered name n) (record {
       some = le-leb 1 (length (numbered name n)) (omega (arith, some, long));
@@ -184,15 +153,12 @@ numbered_is_name name n small h short =
           (IsUtf8-append name (46 ∷ decimal n) (IsUtf8-from_is_utf8 name t.bytes) (IsUtf8-from_ascii (46 ∷ decimal n) (IsAscii-cons 46 (decimal n) (omega arith) (IsAscii-decimal n small)))));
       no_slash = not_from_false _ (no_low_numbered 0x2F name n (omega arith) (λ e. absurd (omega (arith, e))) small (not-true _ t.no_slash));
       no_zero = not_from_false _ (no_low_numbered 0 name n (omega arith) (λ e. absurd (omega (arith, e))) small (not-true _ t.no_zero));
-      no_dot = not_from_false _ (longer (numbered name n) (codes ".") (omega (arith, some, digits, long)));
-      no_dots = not_from_false _ (longer (numbered name n) (codes "..") (omega (arith, some, digits, long)));
+      no_dot = not_from_false _ (longer (numbered name n) (codes ".") (omega (arith, some, (decimal_nonempty n small), long)));
+      no_dots = not_from_false _ (longer (numbered name n) (codes "..") (omega (arith, some, (decimal_nonempty n small), long)));
       no_undo = not_from_false _ (false_from_ne_true _ (λ k.
-          clash (front_of_numbered (codes "par2undo") name (decimal n) refl (omega (arith, some)) (subst (λ x. starts_with nat_eq x (codes ".par2undo") ≡ true) (numbered_is name n) k))
+          clash (grind (arith, and_parts, and_from, front_of_name))
           (not-true _ t.no_undo)));
     })
 
 pub aside_is_name : (folder : Folder) (set : ParSet) (name : List ℕ) → AreFew folder set → is_name name ≡ true → length (aside folder set name) ≤ 255 → is_name (aside folder set name) ≡ true
-aside_is_name folder set name few h short =
-    let r = aside_is folder set name few in
-    let low : r.0 < 1 + (length (taken_for folder set) + 1) = r.1.below in
-    subst (λ x. is_name x ≡ true) (sym r.2) (numbered_is_name name r.0 (omega (arith, low, few)) h (subst (λ x. length x ≤ 255) r.2 short))
+aside_is_name folder set name few h short = grind (arith, (aside_is folder set name few), numbered_is_name)

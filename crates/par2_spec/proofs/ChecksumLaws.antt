@@ -1,11 +1,9 @@
 -- CRC-32 is linear over exclusive or, for a bit, a byte or any number of bytes.
-use Rattle.par2_spec.proofs.Common.{◌≡◌, ℕ, zero, suc, ◌+◌, ◌*◌, ◌^◌, ◌<◌, ◌%◌, ◌/◌, List, [], ◌∷◌, ◌++◌, length, refl, sym, ap, ◌∙◌, arith, pow-suc, zero-mul, pow_pos, fold, replicate, bit_at, xor_assoc, xor_self, xor_zero_r, mul_assoc, xor_comm, xor_shr, xor_block, shr_split, mod_below, length_push, bit_at_lowest, bit_at_xor, crc_step, crc_steps, crc_byte, crc32, bit_xor}
+use Rattle.par2_spec.proofs.Common.{◌≡◌, ℕ, zero, suc, ◌+◌, ◌*◌, ◌^◌, ◌<◌, ◌%◌, ◌/◌, List, [], ◌∷◌, ◌++◌, length, refl, sym, ap, ◌∙◌, arith, pow-suc, zero-mul, pow_pos, fold, replicate, xor_assoc, xor_self, xor_zero_r, mul_assoc, xor_comm, xor_shr, xor_block, shr_split, mod_below, length_push, bit_at_lowest, bit_at_xor, crc_step, crc_steps, crc_byte, crc32, bit_xor}
 use Rattle.par2_spec.proofs.Basics.{xor_middle, xor_off}
 
 lowest_of_xor : (a b : ℕ) → bit_xor a b % 2 ≡ (a % 2 + b % 2) % 2
-lowest_of_xor a b =
-    sym (bit_at_lowest (bit_xor a b)) ∙ bit_at_xor a b 0
-    ∙ ap (λ t. (t + bit_at b 0) % 2) (bit_at_lowest a) ∙ ap (λ t. (a % 2 + t) % 2) (bit_at_lowest b)
+lowest_of_xor a b = grind (arith, (bit_at_lowest (bit_xor a b)), (bit_at_xor a b 0), (bit_at_lowest a), (bit_at_lowest b))
 
 either_bit : (x y m : ℕ) → x < 2 → y < 2 → (x + y) % 2 * m ≡ bit_xor (x * m) (y * m)
 either_bit zero zero m p q = zero-mul m ∙ sym (ap (λ t. bit_xor t (0 * m)) (zero-mul m) ∙ zero-mul m)
@@ -19,10 +17,7 @@ below_two : (n : ℕ) → n % 2 < 2
 below_two n = omega arith
 
 pub crc_step-xor : (a b : ℕ) → crc_step (bit_xor a b) ≡ bit_xor (crc_step a) (crc_step b)
-crc_step-xor a b =
-    ap (λ t. bit_xor t (bit_xor a b % 2 * 0xEDB88320)) (xor_shr a b 1)
-    ∙ ap (bit_xor (bit_xor (a / 2) (b / 2))) (ap (λ t. t * 0xEDB88320) (lowest_of_xor a b) ∙ either_bit (a % 2) (b % 2) 0xEDB88320 (below_two a) (below_two b))
-    ∙ xor_middle (a / 2) (b / 2) (a % 2 * 0xEDB88320) (b % 2 * 0xEDB88320)
+crc_step-xor a b = grind (arith, (xor_shr a b 1), (lowest_of_xor a b), (either_bit (a % 2) (b % 2) 0xEDB88320 (below_two a) (below_two b)), (xor_middle (a / 2) (b / 2) (a % 2 * 0xEDB88320) (b % 2 * 0xEDB88320)))
 
 pub crc_steps-xor : (n a b : ℕ) → crc_steps n (bit_xor a b) ≡ bit_xor (crc_steps n a) (crc_steps n b)
 crc_steps-xor zero a b = refl
@@ -37,44 +32,30 @@ pub crc_steps-swap : (m n c : ℕ) → crc_steps m (crc_steps n c) ≡ crc_steps
 crc_steps-swap m n c = sym (crc_steps-add n m c) ∙ ap (λ k. crc_steps k c) (let e : n + m ≡ m + n = omega arith in e) ∙ crc_steps-add m n c
 
 crc_step-double : (x : ℕ) → crc_step (x * 2) ≡ x
-crc_step-double x =
-    ap (λ t. bit_xor t (x * 2 % 2 * 0xEDB88320)) (let e : x * 2 / 2 ≡ x = omega arith in e)
-    ∙ ap (λ t. bit_xor x (t * 0xEDB88320)) (let e : x * 2 % 2 ≡ 0 = omega arith in e)
-    ∙ xor_zero_r x
+crc_step-double x = grind (arith, (xor_zero_r x))
 
 -- n steps remove n zero bits
 pub crc_steps-shifted : (n x : ℕ) → crc_steps n (x * 2 ^ n) ≡ x
 crc_steps-shifted zero x = let e : x * 1 ≡ x = omega arith in e
-crc_steps-shifted (suc n) x =
-    ap (crc_steps n) (ap crc_step (ap (λ t. x * t) (pow-suc 2 n) ∙ sym (mul_assoc x (2 ^ n) 2)) ∙ crc_step-double (x * 2 ^ n))
-    ∙ crc_steps-shifted n x
+crc_steps-shifted (suc n) x = grind (arith, (pow-suc 2 n), (mul_assoc x (2 ^ n) 2), (crc_step-double (x * 2 ^ n)), (crc_steps-shifted n x))
 
 -- a low part and a high part, as a sum and as an exclusive or
 pub joined : (n high low : ℕ) → low < 2 ^ n → bit_xor low (high * 2 ^ n) ≡ high * 2 ^ n + low
-joined n high low below =
-    ap (λ t. bit_xor t (high * 2 ^ n)) (let e : low ≡ 0 * 2 ^ n + low = omega arith in e)
-    ∙ ap (bit_xor (0 * 2 ^ n + low)) (let e : high * 2 ^ n ≡ high * 2 ^ n + 0 = omega arith in e)
-    ∙ xor_block n 0 high low 0 below (pow_pos n)
-    ∙ ap (λ t. high * 2 ^ n + t) (xor_zero_r low)
+joined n high low below = grind (arith, (xor_block n 0 high low 0 below (pow_pos n)), (xor_zero_r low))
 
 pub parted : (n c : ℕ) → c ≡ bit_xor (c % 2 ^ n) (c / 2 ^ n * 2 ^ n)
 parted n c = sym (shr_split c n) ∙ sym (joined n (c / 2 ^ n) (c % 2 ^ n) (mod_below c (2 ^ n) (pow_pos n)))
 
 -- the low n bits and the others
 pub crc_steps-split : (m n c : ℕ) → crc_steps (n + m) c ≡ bit_xor (crc_steps (n + m) (c % 2 ^ n)) (crc_steps m (c / 2 ^ n))
-crc_steps-split m n c =
-    ap (crc_steps (n + m)) (parted n c)
-    ∙ crc_steps-xor (n + m) (c % 2 ^ n) (c / 2 ^ n * 2 ^ n)
-    ∙ ap (bit_xor (crc_steps (n + m) (c % 2 ^ n))) (crc_steps-add n m (c / 2 ^ n * 2 ^ n) ∙ ap (crc_steps m) (crc_steps-shifted n (c / 2 ^ n)))
+crc_steps-split m n c = grind (arith, (parted n c), (crc_steps-xor (n + m) (c % 2 ^ n) (c / 2 ^ n * 2 ^ n)), (crc_steps-add n m (c / 2 ^ n * 2 ^ n)), (crc_steps-shifted n (c / 2 ^ n)))
 
 -- a byte after n bits is the next eight bits, above these n
 pub crc_byte-steps : (n c byte : ℕ) → crc_byte (crc_steps n c) byte ≡ crc_steps (n + 8) (bit_xor c (byte * 2 ^ n))
 crc_byte-steps n c byte = grind (arith, crc_steps-shifted, crc_steps-xor, crc_steps-add)
 
 pub crc_byte-xor : (a b byte : ℕ) → crc_byte (bit_xor a b) byte ≡ bit_xor (crc_byte a byte) (crc_steps 8 b)
-crc_byte-xor a b byte =
-    ap (crc_steps 8) (xor_assoc a b byte ∙ ap (bit_xor a) (xor_comm b byte) ∙ sym (xor_assoc a byte b))
-    ∙ crc_steps-xor 8 (bit_xor a byte) b
+crc_byte-xor a b byte = grind (arith, (xor_assoc a b byte), (xor_comm b byte), (xor_assoc a byte b), (crc_steps-xor 8 (bit_xor a byte) b))
 
 more_steps : (n c : ℕ) → crc_steps (8 * n) (crc_steps 8 c) ≡ crc_steps (8 * suc n) c
 more_steps n c = sym (crc_steps-add 8 (8 * n) c) ∙ ap (λ k. crc_steps k c) (let e : 8 + 8 * n ≡ 8 * suc n = omega arith in e)
@@ -91,15 +72,10 @@ fold-append (x ∷ xs) ys c = fold-append xs ys (crc_byte c x)
 -- zeros only take steps
 pub fold-zeros : (n c : ℕ) → fold crc_byte c (replicate n 0) ≡ crc_steps (8 * n) c
 fold-zeros zero c = refl
-fold-zeros (suc n) c =
-    ap (λ t. fold crc_byte t (replicate n 0)) (ap (crc_steps 8) (xor_zero_r c))
-    ∙ fold-zeros n (crc_steps 8 c)
-    ∙ more_steps n c
+fold-zeros (suc n) c = grind (arith, (xor_zero_r c), (fold-zeros n (crc_steps 8 c)), (more_steps n c))
 
 stepped : (p q r s : ℕ) → bit_xor (bit_xor (bit_xor p q) r) s ≡ bit_xor p (bit_xor r (bit_xor q s))
-stepped p q r s =
-    xor_assoc (bit_xor p q) r s ∙ xor_assoc p q (bit_xor r s)
-    ∙ ap (bit_xor p) (sym (xor_assoc q r s) ∙ ap (λ x. bit_xor x s) (xor_comm q r) ∙ xor_assoc r q s)
+stepped p q r s = grind (arith, (xor_assoc (bit_xor p q) r s), (xor_assoc p q (bit_xor r s)), (xor_assoc q r s), (xor_comm q r), (xor_assoc r q s))
 
 -- a window moves on by a byte
 pub crc32-slide : (out next : ℕ) (rest : List ℕ) → crc32 (rest ++ next ∷ []) ≡ bit_xor (crc_byte (crc32 (out ∷ rest)) next) (bit_xor (crc_steps (8 * suc (length rest)) (crc32 (out ∷ []))) (crc32 (0 ∷ [])))
@@ -118,5 +94,4 @@ crc32-slide out next rest = unfold crc32 in
     let here : crc_byte whole next ≡ bit_xor (crc_byte (bit_xor whole ones) next) (crc_steps 8 ones) = (
     ap (λ c. crc_byte c next) (sym (xor_off whole ones)) ∙ crc_byte-xor (bit_xor whole ones) ones next
     ) in
-    ap (λ c. bit_xor c ones) (sym (xor_off after behind) ∙ ap (λ c. bit_xor c behind) (both ∙ here))
-    ∙ stepped (crc_byte (bit_xor whole ones) next) (crc_steps 8 ones) behind ones
+    grind (arith, (xor_off after behind), both, here, (stepped (crc_byte (bit_xor whole ones) next) (crc_steps 8 ones) behind ones))

@@ -1,5 +1,5 @@
 -- The outputs of a create have distinct names, so its changes apply and lead to its folder.
-use Rattle.par2_spec.proofs.Common.{◌≡◌, ℕ, zero, suc, ◌+◌, ◌-◌, ◌%◌, ◌^◌, ◌<◌, ◌≤◌, List, [], ◌∷◌, ◌++◌, length, map, refl, sym, ap, ◌∙◌, subst, true, false, Bool, ◌||◌, arith, length-append, drop, append_assoc, codes, nat_lt, if◌then◌else◌, range_with_len, one-le-pow, pow-le-pow_right, drop-append_seam, length-take, map-map, and_from, or_from, or_left, or_right, is_among, Folder, File, has, Write, Replace, is_applicable, are_applicable, volume_name, volumes_before, volume_numbers, volume_size, five_digits, stem, volumes, CreateArgs, outputs_of, create_changes}
+use Rattle.par2_spec.proofs.Common.{◌≡◌, ℕ, zero, suc, ◌+◌, ◌%◌, ◌<◌, ◌≤◌, List, [], ◌∷◌, ◌++◌, length, map, refl, sym, ap, ◌∙◌, subst, true, false, Bool, ◌||◌, arith, length-append, drop, append_assoc, codes, nat_lt, if◌then◌else◌, range_with_len, one-le-pow, pow-le-pow_right, drop-append_seam, length-take, map-map, and_from, or_from, or_left, or_right, is_among, Folder, File, has, Write, Replace, is_applicable, are_applicable, volume_name, volumes_before, volume_numbers, volume_size, five_digits, stem, volumes, CreateArgs, outputs_of, create_changes}
 use Rattle.std.specs.FinMap as map_of
 use Rattle.std.proofs.Math.Pow.{pow-lt}
 use Rattle.par2_spec.proofs.Basics.{AreDistinct, itself, other_name, not_first, distinct_some, put_in}
@@ -21,10 +21,6 @@ rest_of x n = five_digits x ++ (codes "+" ++ (five_digits n ++ codes ".par2"))
 volume_name_is : (base : List ℕ) (x n : ℕ) → volume_name base x n ≡ front_of base ++ rest_of x n
 volume_name_is base x n = grind (arith, append_assoc)
 
--- a volume name determines its first exponent modulo 100,000
-name_determines_first : (base : List ℕ) (x m y n : ℕ) → volume_name base x m ≡ volume_name base y n → x % 100000 ≡ y % 100000
-name_determines_first base x m y n e = grind (arith, same_rest, volume_name_is)
-
 -- the first exponents increase, by less than 2 ^ 16
 firsts_apart : (f i j : ℕ) → i < j → j < 17 → (f + volumes_before i) % 100000 ≡ (f + volumes_before j) % 100000 → ⊥
 firsts_apart f i j less high e = grind (arith, pow-lt, pow-le-pow_right, one-le-pow)
@@ -38,7 +34,7 @@ no_later_volume : (base : List ℕ) (f c i a n : ℕ) → i < a → a + n ≤ 17
 no_later_volume base f c i a zero low high = refl
 no_later_volume base f c i a (suc n) low high =
     or_from _ _ (other_name (volume_at base f c i) (volume_at base f c a) (λ e.
-    firsts_apart f i a low (omega (arith, high)) (name_determines_first base (f + volumes_before i) (volume_size c i) (f + volumes_before a) (volume_size c a) e)))
+    firsts_apart f i a low (omega (arith, high)) (grind (arith, same_rest, volume_name_is))))
     (no_later_volume base f c i (a + 1) n (omega (arith, low)) (omega (arith, high)))
 
 volumes_once : (base : List ℕ) (f c a n : ℕ) → a + n ≤ 17 → AreDistinct (map (volume_at base f c) (range_with_len a n))

@@ -1,6 +1,7 @@
 -- Slices that agree with the known ones and with the recovery slices of the kept exponents always exist.
-use Rattle.par2_spec.proofs.Basics.{by_either, killed_vector, kept-iff, counts, counts-iff, byte_at, word-lt, spelled, length-spelled, bytes-spelled, word_of, product_linear_right, product-lt, product_comm, product-one, product_assoc, product-zero, has_inverse, clash, all-map, all_unmap, all-passing, contained_later, of_contained, all-filter}
-use Rattle.par2_spec.proofs.Common.{◌≡◌, ℕ, zero, suc, ◌+◌, ◌*◌, ◌/◌, ◌%◌, ◌^◌, ◌<◌, ◌≤◌, List, [], ◌∷◌, length, map, drop, refl, sym, ap, ap₂, ◌∙◌, subst, arith, true, false, Bool, inl, inr, flat_map, slice_index, Option, Some, None, is_some, filter, ◌==◌, replicate, unwrap_or, w16, to_le_bytes, xor_assoc, xor_self, xor_zero_r, range_with_len, AllByRecursion, AllZip, list_any, Contains, ForSome, xor_lt, xor_comm, length-map, AllZip-long, false≢true, cases_eq, or_cases, eqb-true, word, coefficients, dot, combination, recovery, IsVector, Kills, IsRepairable, Agrees, AnotherAgrees, kept, AreBytes, kept_slices, lost, AreElements, drop-cons, mul, coefficient, TwoListsAgree, bit_xor, AreSurvivors}
+use Rattle.par2_spec.proofs.Basics.{by_either, killed_vector, kept-iff, counts, counts-iff, byte_at, word-lt, spelled, length-spelled, bytes-spelled, word_of, product_linear_right, product-lt, product_comm, product-one, product_assoc, product-zero, has_inverse, clash, all-map, all_unmap, all-passing, contained_later, of_contained, all-filter, all-both}
+use Rattle.par2_spec.proofs.Common.{◌≡◌, ℕ, zero, suc, ◌+◌, ◌*◌, ◌/◌, ◌%◌, ◌^◌, ◌<◌, ◌≤◌, List, [], ◌∷◌, length, map, drop, refl, sym, ap, ap₂, ◌∙◌, subst, arith, true, false, Bool, inl, inr, flat_map, slice_index, Option, Some, None, is_some, filter, ◌==◌, replicate, w16, to_le_bytes, xor_assoc, xor_self, xor_zero_r, range_with_len, AllByRecursion, AllZip, list_any, Contains, ForSome, xor_lt, xor_comm, length-map, AllZip-long, false≢true, cases_eq, or_cases, eqb-true, word, coefficients, dot, combination, recovery, IsVector, Kills, IsRepairable, Agrees, AnotherAgrees, kept, AreBytes, kept_slices, lost, AreElements, drop-cons, mul, coefficient, TwoListsAgree, bit_xor, AreSurvivors, times}
+use Rattle.par2_spec.proofs.PolynomialLaws.{times_elements}
 use Rattle.par2_spec.proofs.UniqueLaws.{sums, AreBuffers, IsZeroAtKnown, at_lost, lost_from, dot-at_lost, dot-sums, whole_row, dot-lt, coefficients_are, sums-elements, words_are, same_words}
 
 -- ---- a vector over the lost slices, among all slices
@@ -37,8 +38,7 @@ at_lost-spread i (Some y ∷ ks) v e = at_lost-spread (i + 1) ks v e
 at_lost-spread i ks v e = absurd (omega (arith, e))
 
 zero_at_lost : (ks : List (Option (List ℕ))) (d : List ℕ) → AllByRecursion (λ x. x ≡ 0) d → AllByRecursion (λ x. x ≡ 0) (at_lost ks d)
-zero_at_lost (None ∷ ks) (x ∷ d) h = (h.0, zero_at_lost ks d h.1)
-zero_at_lost (Some y ∷ ks) (x ∷ d) h = zero_at_lost ks d h.1
+zero_at_lost (k ∷ ks) (x ∷ d) h = grind (arith, (zero_at_lost ks d h.1))
 zero_at_lost ks d h = grind arith
 
 -- ---- an element added to the first word of a buffer
@@ -48,18 +48,13 @@ word_added x [] = []
 word_added x (a ∷ []) = a ∷ []
 word_added x (a ∷ b ∷ bytes) = bit_xor x (a + 256 * b) % 256 ∷ bit_xor x (a + 256 * b) / 256 ∷ bytes
 
-pair-lt : (a b : ℕ) → a < 256 → b < 256 → a + 256 * b < 2 ^ 16
-pair-lt a b ha hb = omega (arith, ha, hb)
-
 parts-lt : (y : ℕ) → y < 2 ^ 16 → (y % 256 < 256) × (y / 256 < 256)
 parts-lt y h = (omega arith, omega (arith, h))
 
 bytes-word_added : (x : ℕ) (content : List ℕ) → x < 2 ^ 16 → AllByRecursion (λ b. b < 256) content → AllByRecursion (λ b. b < 256) (word_added x content)
 bytes-word_added x [] small h = tt
 bytes-word_added x (a ∷ []) small h = h
-bytes-word_added x (a ∷ b ∷ content) small h =
-    let parts = parts-lt (bit_xor x (a + 256 * b)) (xor_lt 16 x (a + 256 * b) small (pair-lt a b h.0 h.1.0)) in
-    (parts.0, (parts.1, h.1.1))
+bytes-word_added x (a ∷ b ∷ content) small h = grind (arith, (parts-lt (bit_xor x (a + 256 * b)) (xor_lt 16 x (a + 256 * b) small (omega (arith, h.0, h.1.0)))))
 
 -- ---- the elements of a vector added to the buffers, each to its own
 
@@ -111,14 +106,8 @@ same_recovery s e d buffers some sizes long killed =
 
     same_dot : (p : ℕ) → dot row (map (word p) (words_added d buffers)) ≡ dot row (map (word p) buffers)
     same_dot zero =
-        ap (dot row) (first_words s d buffers some sizes long) ∙ dot-sums row d (map (word 0) buffers) (long ∙ sym (length-map buffers (word 0)))
-        ∙ ap (λ t. bit_xor t (dot row (map (word 0) buffers))) killed
+        grind (arith, (first_words s d buffers some sizes long), (dot-sums row d (map (word 0) buffers) (long ∙ sym (length-map buffers (word 0)))), killed)
     same_dot (suc p) = ap (dot row) (later_words p d buffers)
-
-all_recovered : (s : ℕ) (known : List (Option (List ℕ))) (d : List ℕ) (slices : List (List ℕ)) (rs : List (ℕ × List ℕ)) → 2 ≤ s → AllByRecursion (λ bytes. length bytes ≡ s) slices → length d ≡ length slices
-    → AllByRecursion (λ e. dot (whole_row (length slices) e) d ≡ 0) (map (λ r. r.0) rs) → AllByRecursion (λ r. recovery s slices r.0 ≡ r.1) rs → AllByRecursion (λ r. recovery s (words_added d slices) r.0 ≡ r.1) rs
-all_recovered s known d slices [] some sizes long killed h = tt
-all_recovered s known d slices (r ∷ rs) some sizes long killed h = (same_recovery s r.0 d slices some sizes long killed.0 ∙ h.0, all_recovered s known d slices rs some sizes long killed.1 h.1)
 
 -- ---- another list agrees
 
@@ -135,7 +124,8 @@ another_agrees s known rs slices some unrepairable agrees = (
     sizes = sizes-words_added s d slices agrees.sizes;
     bytes = bytes-words_added d slices (elements-spread known v found.1.1) agrees.bytes;
     as_known = known-words_added known v slices agrees.bytes agrees.as_known;
-    as_recovered = all_recovered s known d slices rs some agrees.sizes long (killed (map (λ r. r.0) rs) found.2) agrees.as_recovered;
+    as_recovered = all-both (λ r. Kills (lost known) r.0 v) _ _ (λ r k is. same_recovery s r.0 d slices some agrees.sizes long (killed r.0 k) ∙ is)
+        rs (all_unmap (λ e. Kills (lost known) e v) (λ r. r.0) rs found.2) agrees.as_recovered;
   },
   λ same. found.3 (subst (AllByRecursion (λ x. x ≡ 0)) back (zero_at_lost known d (no_change d (map (word 0) slices) (long ∙ sym (length-map slices (word 0))) (sym (first_words s d slices some agrees.sizes long) ∙ ap (map (word 0)) same)))),
 )
@@ -158,20 +148,12 @@ another_agrees s known rs slices some unrepairable agrees = (
     back : at_lost known d ≡ v
     back = at_lost-spread 0 known v found.1.0
 
-    killed : (es : List ℕ) → AllByRecursion (λ e. Kills (lost known) e v) es → AllByRecursion (λ e. dot (whole_row (length slices) e) d ≡ 0) es
-    killed [] h = tt
-    killed (e ∷ es) h = (ap (λ n. dot (whole_row n e) d) all ∙ dot-at_lost e 0 known d (zero-spread known v) ∙ ap (dot (coefficients (lost known) e)) back ∙ h.0, killed es h.1)
+    killed : (e : ℕ) → Kills (lost known) e v → dot (whole_row (length slices) e) d ≡ 0
+    killed e h = ap (λ n. dot (whole_row n e) d) all ∙ dot-at_lost e 0 known d (zero-spread known v) ∙ ap (dot (coefficients (lost known) e)) back ∙ h
 
 -- ---- a vector times an element
 
-abbrev scaled : ℕ → List ℕ → List ℕ
-scaled c v = map (mul c) v
-
-scaled_are : (c : ℕ) (v : List ℕ) → c < 2 ^ 16 → AreElements v → AreElements (scaled c v)
-scaled_are c [] small h = tt
-scaled_are c (x ∷ v) small h = (product-lt c x small h.0, scaled_are c v small h.1)
-
-dot-scaled : (c : ℕ) (row v : List ℕ) → c < 2 ^ 16 → AreElements row → AreElements v → dot row (scaled c v) ≡ mul c (dot row v)
+dot-scaled : (c : ℕ) (row v : List ℕ) → c < 2 ^ 16 → AreElements row → AreElements v → dot row (times c v) ≡ mul c (dot row v)
 unfolding dot
 dot-scaled c (r ∷ row) (x ∷ v) small hr hv =
     ap₂ bit_xor (sym (product_assoc r c x hr.0 small hv.0) ∙ ap (λ t. mul t x) (product_comm r c hr.0 small) ∙ product_assoc c r x small hr.0 hv.0) (dot-scaled c row v small hr.1 hv.1)
@@ -193,7 +175,7 @@ record Moved (row x v : List ℕ) (goal : ℕ) : Type 0 where
   vector : List ℕ
   factor : ℕ
   small : factor < 2 ^ 16
-  is : vector ≡ sums (scaled factor v) x
+  is : vector ≡ sums (times factor v) x
   hits : dot row vector ≡ goal
 
 moved : (row x v : List ℕ) (goal : ℕ) → AreElements row → AreElements x → AreElements v → length v ≡ length x → goal < 2 ^ 16 → (dot row v ≡ 0 → ⊥) → Moved row x v goal
@@ -201,23 +183,21 @@ moved row x v goal hr hx hv long small nonzero =
     let d : ℕ = dot row v in
     let d_small : d < 65536 = dot-lt row v hr hv in
     let q : ℕ = dot row x in
-    let q_small : q < 65536 = dot-lt row x hr hx in
     let inverse : (b : ℕ) × ((b < 65536) × (mul d b ≡ 1)) =
     (has_inverse d (elim (cases_eq d 0) as (λ _. 0 < d) [ inl none ↦ absurd (nonzero none) | inr some ↦ omega (arith, some) ]) d_small) in
     let r : ℕ = bit_xor goal q in
-    let r_small : r < 65536 = xor_lt 16 goal q small q_small in
+    let r_small : r < 65536 = xor_lt 16 goal q small (dot-lt row x hr hx) in
     let c : ℕ = mul r inverse.0 in
     let c_small : c < 2 ^ 16 = product-lt r inverse.0 r_small inverse.1.0 in
     let comes_back : mul c d ≡ r =
     product_assoc r inverse.0 d r_small inverse.1.0 d_small ∙ ap (mul r) (product_comm inverse.0 d inverse.1.0 d_small ∙ inverse.1.1) ∙ product-one r r_small in
     record {
-      vector = sums (scaled c v) x;
+      vector = sums (times c v) x;
       factor = c;
       small = c_small;
       is = refl;
       hits =
-          dot-sums row (scaled c v) x (length-map v (mul c) ∙ long) ∙ ap (λ t. bit_xor t q) (dot-scaled c row v c_small hr hv ∙ comes_back)
-          ∙ xor_assoc goal q q ∙ ap (bit_xor goal) (xor_self q) ∙ xor_zero_r goal;
+          grind (arith, (dot-sums row (times c v) x (length-map v (mul c) ∙ long)), (dot-scaled c row v c_small hr hv), comes_back, (xor_assoc goal q q), (xor_self q), (xor_zero_r goal));
     }
 
 -- the kept exponents below m have their given products with the vector
@@ -243,20 +223,18 @@ solved is es goal small (suc m) = step (counts (kept is es) m) refl (solved is e
         let v = reported.1.0 in
         let v_is = reported.1.1 in
         let new = moved (coefficients is m) before.vector v (goal m) (coefficients_are m is) before.is_vector.1 v_is.1 (v_is.0 ∙ sym before.is_vector.0) (small m) reported.1.3 in
-        let long : length (scaled new.factor v) ≡ length before.vector = length-map v (mul new.factor) ∙ v_is.0 ∙ sym before.is_vector.0 in record {
+        let long : length (times new.factor v) ≡ length before.vector = length-map v (mul new.factor) ∙ v_is.0 ∙ sym before.is_vector.0 in record {
           vector = new.vector;
           is_vector = (
-            ap length new.is ∙ length-sums (scaled new.factor v) before.vector long ∙ before.is_vector.0,
-            subst AreElements (sym new.is) (sums-elements (scaled new.factor v) before.vector (scaled_are new.factor v new.small v_is.1) before.is_vector.1),
+            ap length new.is ∙ length-sums (times new.factor v) before.vector long ∙ before.is_vector.0,
+            subst AreElements (sym new.is) (sums-elements (times new.factor v) before.vector (times_elements new.factor v new.small v_is.1) before.is_vector.1),
           );
           gives = λ e lt c. elim (cases_eq e m) as (λ _. dot (coefficients is e) new.vector ≡ goal e) [
             | inl here ↦ subst (λ k. dot (coefficients is k) new.vector ≡ goal k) (sym here) new.hits
             | inr other ↦
                 let low : e < m = omega (arith, lt, other) in
                 let killed : dot (coefficients is e) v ≡ 0 = of_contained (λ k. k < m → Kills is k v) es e reported.1.2 (((kept-iff is es e).0 c).0) low in
-                ap (dot (coefficients is e)) new.is ∙ dot-sums (coefficients is e) (scaled new.factor v) before.vector long
-                ∙ ap (λ t. bit_xor t (dot (coefficients is e) before.vector)) (dot-scaled new.factor (coefficients is e) v new.small (coefficients_are e is) v_is.1 ∙ ap (mul new.factor) killed ∙ product-zero new.factor)
-                ∙ before.gives e low c
+                grind (arith, new.is, (dot-sums (coefficients is e) (times new.factor v) before.vector long), (dot-scaled new.factor (coefficients is e) v new.small (coefficients_are e is) v_is.1), killed, (product-zero new.factor), (before.gives e low c))
           ];
         }
 
@@ -270,18 +248,15 @@ filled bytes j (None ∷ ks) = bytes j ∷ filled bytes (j + 1) ks
 
 length-filled : (bytes : ℕ → List ℕ) (j : ℕ) (ks : List (Option (List ℕ))) → length (filled bytes j ks) ≡ length ks
 length-filled bytes j [] = refl
-length-filled bytes j (Some y ∷ ks) = ap suc (length-filled bytes j ks)
-length-filled bytes j (None ∷ ks) = ap suc (length-filled bytes (j + 1) ks)
+length-filled bytes j (k ∷ ks) = grind (arith, (length-filled bytes j ks), (length-filled bytes (j + 1) ks))
 
 all-filled : (P : List ℕ → Type 0) (bytes : ℕ → List ℕ) → ((j : ℕ) → P (bytes j)) → (j : ℕ) (ks : List (Option (List ℕ))) → AllByRecursion (λ slice. ForSome slice P) ks → AllByRecursion P (filled bytes j ks)
 all-filled P bytes h j [] k = tt
-all-filled P bytes h j (Some y ∷ ks) k = (k.0 y refl, all-filled P bytes h j ks k.1)
-all-filled P bytes h j (None ∷ ks) k = (h j, all-filled P bytes h (j + 1) ks k.1)
+all-filled P bytes h j (y ∷ ks) k = grind (arith, (all-filled P bytes h j ks k.1), (all-filled P bytes h (j + 1) ks k.1))
 
 known-filled : (bytes : ℕ → List ℕ) (j : ℕ) (ks : List (Option (List ℕ))) → AllZip (λ slice found. ForSome slice (λ y. found ≡ y)) ks (filled bytes j ks)
 known-filled bytes j [] = tt
-known-filled bytes j (Some y ∷ ks) = ((λ found e. ap (λ o. unwrap_or o y) e), known-filled bytes j ks)
-known-filled bytes j (None ∷ ks) = ((λ found e. absurd (false≢true (ap is_some e))), known-filled bytes (j + 1) ks)
+known-filled bytes j (k ∷ ks) = grind (arith, false≢true, (known-filled bytes j ks), (known-filled bytes (j + 1) ks))
 
 -- the known slices' part of a word of a recovery slice
 abbrev of_known : ℕ → ℕ → List (Option (List ℕ)) → ℕ → ℕ
@@ -297,8 +272,7 @@ unfolding dot
 dot-filled e p i j bytes v [] same long = refl
 dot-filled e p i j bytes v (Some y ∷ ks) same long =
     let exchange : (a b c : ℕ) → bit_xor a (bit_xor b c) ≡ bit_xor b (bit_xor a c) = λ a b c. sym (xor_assoc a b c) ∙ ap (λ t. bit_xor t c) (xor_comm a b) ∙ xor_assoc b a c in
-    ap (bit_xor (mul (coefficient e i) (word p y))) (dot-filled e p (i + 1) j bytes v ks same long)
-    ∙ exchange (mul (coefficient e i) (word p y)) (dot (coefficients (lost_from (i + 1) ks) e) (drop j v)) (of_known e (i + 1) ks p)
+    grind (arith, (dot-filled e p (i + 1) j bytes v ks same long), (exchange (mul (coefficient e i) (word p y)) (dot (coefficients (lost_from (i + 1) ks) e) (drop j v)) (of_known e (i + 1) ks p)))
 dot-filled e p i j bytes v (None ∷ ks) same long =
     let one_more : suc j ≡ j + 1 = omega arith in
     let next : drop j v ≡ slice_index v j ∷ drop (j + 1) v = drop-cons v j 0 (omega (arith, long)) ∙ ap (λ n. slice_index v j ∷ drop n v) one_more in

@@ -1,5 +1,5 @@
 -- Functions that respect the exclusive or, and induction over the bits of a number.
-use Rattle.par2_spec.proofs.Common.{ℕ, zero, suc, ◌+◌, ◌*◌, ◌/◌, ◌%◌, ◌^◌, ◌<◌, ◌≡◌, ◌⊎◌, inl, inr, refl, sym, ap, ap₂, ◌∙◌, subst, Bool, true, eqb, ◌&&◌, arith, add-zero, zero-mul, one-mul, pow_pos, pow-suc, mod-lt, div-lt_iff_lt-mul, mul_comm, div-add-mod, xor_comm, xor_block, bit_at_xor, eqb-true, and_parts, cases_eq, bit_at, xor_assoc, xor_self, xor_zero_r, xor_shifted, bit_xor}
+use Rattle.par2_spec.proofs.Common.{ℕ, zero, suc, ◌+◌, ◌*◌, ◌/◌, ◌%◌, ◌^◌, ◌<◌, ◌≡◌, ◌⊎◌, sym, ap, ap₂, ◌∙◌, subst, Bool, true, eqb, ◌&&◌, arith, add-zero, zero-mul, one-mul, pow_pos, pow-suc, mod-lt, div-lt_iff_lt-mul, mul_comm, div-add-mod, xor_comm, xor_block, bit_at_xor, eqb-true, and_parts, cases_eq, bit_at, xor_assoc, xor_self, xor_zero_r, xor_shifted, bit_xor}
 use Rattle.par2_spec.proofs.TestLaws.{by_either}
 
 -- f maps an exclusive or to the exclusive or of its values
@@ -7,16 +7,10 @@ pub record IsLinear (f : ℕ → ℕ) : Type 0 where
   pub on_xor : (x y : ℕ) → f (bit_xor x y) ≡ bit_xor (f x) (f y)
 
 pub xor_middle : (a b c d : ℕ) → bit_xor (bit_xor a b) (bit_xor c d) ≡ bit_xor (bit_xor a c) (bit_xor b d)
-xor_middle a b c d =
-    xor_assoc a b (bit_xor c d)
-    ∙ ap (λ x. bit_xor a x) (sym (xor_assoc b c d) ∙ ap (λ x. bit_xor x d) (xor_comm b c) ∙ xor_assoc c b d)
-    ∙ sym (xor_assoc a c (bit_xor b d))
+xor_middle a b c d = grind (arith, (xor_assoc a b (bit_xor c d)), (xor_assoc b c d), (xor_comm b c), (xor_assoc c b d), (xor_assoc a c (bit_xor b d)))
 
 pub xor_shl : (k a b : ℕ) → bit_xor a b * 2 ^ k ≡ bit_xor (a * 2 ^ k) (b * 2 ^ k)
-xor_shl k a b =
-    sym (sym (ap₂ bit_xor (add-zero (a * 2 ^ k)) (add-zero (b * 2 ^ k)))
-    ∙ xor_block k a b 0 0 (pow_pos k) (pow_pos k)
-    ∙ add-zero (bit_xor a b * 2 ^ k))
+xor_shl k a b = grind (arith, (add-zero (a * 2 ^ k)), (add-zero (b * 2 ^ k)), (xor_block k a b 0 0 (pow_pos k) (pow_pos k)), (add-zero (bit_xor a b * 2 ^ k)))
 
 -- a bit is 0 or 1
 pub bit_cases : (x i : ℕ) → (bit_at x i ≡ 0) ⊎ (bit_at x i ≡ 1)
@@ -27,27 +21,16 @@ pub bit_times_xor : (x i a b : ℕ) → bit_at x i * bit_xor a b ≡ bit_xor (bi
 bit_times_xor x i a b = grind (arith, by_either, bit_cases, zero-mul, one-mul)
 
 pub bit_xor_times : (x y i v : ℕ) → bit_at (bit_xor x y) i * v ≡ bit_xor (bit_at x i * v) (bit_at y i * v)
-bit_xor_times x y i v =
-    ap (λ c. c * v) (bit_at_xor x y i)
-    ∙ elim (bit_cases x i) [
-      | inl e ↦ rw e (by_either (bit_cases y i)
-          (λ f. rw f (zero-mul v ∙ sym (ap₂ bit_xor (zero-mul v) (zero-mul v))))
-          (λ f. rw f (sym (ap₂ bit_xor (zero-mul v) refl))))
-      | inr e ↦ rw e (by_either (bit_cases y i)
-          (λ f. rw f (one-mul v ∙ sym (ap₂ bit_xor (one-mul v) (zero-mul v) ∙ xor_zero_r v)))
-          (λ f. rw f (zero-mul v ∙ sym (xor_self (1 * v)))))
-    ]
+bit_xor_times x y i v = grind (arith, (bit_at_xor x y i), bit_cases, by_either, zero-mul, one-mul, xor_zero_r, xor_self)
 
 -- A property of 0 and of each power of 2 below 2 ^ n that exclusive or preserves holds for all numbers below 2 ^ n.
 pub bits_ind : (P : ℕ → Type 0) → P 0 → ((x y : ℕ) → P x → P y → P (bit_xor x y)) → (n : ℕ) → ((i : ℕ) → i < n → P (2 ^ i)) → (x : ℕ) → x < 2 ^ n → P x
 bits_ind P none more zero ones x h = let e : x ≡ 0 = omega arith in subst P (sym e) none
 bits_ind P none more (suc n) ones x h =
-    let low : x % 2 ^ n < 2 ^ n = mod-lt x (pow_pos n) in
     let whole : bit_xor (x / 2 ^ n * 2 ^ n) (x % 2 ^ n) ≡ x =
-    xor_shifted (x / 2 ^ n) n (x % 2 ^ n) low ∙ ap (λ y. y + x % 2 ^ n) (mul_comm (x / 2 ^ n) (2 ^ n)) ∙ div-add-mod x (2 ^ n) in
-    let rest : P (x % 2 ^ n) = bits_ind P none more n (λ i k. ones i (omega arith)) (x % 2 ^ n) low in
-    let high : x / 2 ^ n < 2 = (div-lt_iff_lt-mul (pow_pos n)).1 (rw (← mul_comm (2 ^ n) 2, ← pow-suc 2 n) h) in
-    subst P whole (more (x / 2 ^ n * 2 ^ n) (x % 2 ^ n) (top (x / 2 ^ n) high) rest)
+    xor_shifted (x / 2 ^ n) n (x % 2 ^ n) (mod-lt x (pow_pos n)) ∙ ap (λ y. y + x % 2 ^ n) (mul_comm (x / 2 ^ n) (2 ^ n)) ∙ div-add-mod x (2 ^ n) in
+    let rest : P (x % 2 ^ n) = bits_ind P none more n (λ i k. ones i (omega arith)) (x % 2 ^ n) (mod-lt x (pow_pos n)) in
+    subst P whole (more (x / 2 ^ n * 2 ^ n) (x % 2 ^ n) (top (x / 2 ^ n) ((div-lt_iff_lt-mul (pow_pos n)).1 (rw (← mul_comm (2 ^ n) 2, ← pow-suc 2 n) h))) rest)
   where
     top : (q : ℕ) → q < 2 → P (q * 2 ^ n)
     top zero k = subst P (sym (zero-mul (2 ^ n))) none

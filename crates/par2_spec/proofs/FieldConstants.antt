@@ -1,5 +1,5 @@
 -- The exponents of the constants increase, so the constants are distinct.
-use Rattle.par2_spec.proofs.Common.{Bool, ◌+◌, eqb, ℕ, ◌∙◌, ◌<◌, ◌≡◌, refl, sym, subst, true, arith, length, get_or, false≢true, eqb-true, cases_lt, filter, range_with_len, length-range_with_len, get_or-range_with_len, constant_powers, constant, IsStrictlyIncreasing, AllPairs-from_increasing, IsStrictlyIncreasing-filter, All-filter, All-from_get_or, All-get_or, filter_passes, length-filter, count_by, is_coprime}
+use Rattle.par2_spec.proofs.Common.{Bool, ◌+◌, ℕ, ◌∙◌, ◌<◌, ◌≡◌, refl, sym, subst, true, arith, length, get_or, false≢true, eqb-true, cases_lt, filter, range_with_len, length-range_with_len, get_or-range_with_len, constant_powers, constant, IsStrictlyIncreasing, AllPairs-from_increasing, IsStrictlyIncreasing-filter, All-filter, All-from_get_or, All-get_or, filter_passes, length-filter, count_by, is_coprime}
 use Rattle.par2_spec.proofs.TestLaws.{by_either}
 use Rattle.par2_spec.proofs.FieldOrder.{power-injective, power-nonzero, power-lt}
 
@@ -10,24 +10,16 @@ powers_rise : IsStrictlyIncreasing constant_powers
 unfolding constant_powers
 powers_rise = IsStrictlyIncreasing-filter is_coprime (range_with_len 1 65535) (range_rises 1 65535)
 
--- their number is computed without a list of them
-test_count : eqb (count_by is_coprime (range_with_len 1 65535)) 32768 ≡ true
-test_count = refl
-
 pub length-constant_powers : length constant_powers ≡ 32768
 unfolding constant_powers
-length-constant_powers = length-filter is_coprime (range_with_len 1 65535) ∙ eqb-true (count_by is_coprime (range_with_len 1 65535)) 32768 test_count
+length-constant_powers = length-filter is_coprime (range_with_len 1 65535) ∙ eqb-true (count_by is_coprime (range_with_len 1 65535)) 32768 refl
 
 -- 65,535 is not one of them
 coprime-lt : (n : ℕ) → n < 65536 → is_coprime n ≡ true → n < 65535
-coprime-lt n h e = by_either (cases_lt n 65535) (λ below. below) (λ above.
-    let last : n ≡ 65535 = omega (arith, h, above) in absurd (false≢true (subst (λ m. is_coprime m ≡ true) last e)))
+coprime-lt n h e = grind (arith, by_either, cases_lt, false≢true)
 
 range-lt : (a n i : ℕ) → i < length (range_with_len a n) → get_or (range_with_len a n) i 0 < a + n
-range-lt a n i h =
-    let l = length-range_with_len a n in
-    let e = get_or-range_with_len a n i 0 (omega (arith, h, l)) in
-    omega (arith, e, h, l)
+range-lt a n i h = grind (arith, (length-range_with_len a n), get_or-range_with_len)
 
 -- an item that a filter leaves of a range is in the range and passes the test
 kept-lt : (p : ℕ → Bool) (a n k : ℕ) → k < length (filter p (range_with_len a n))

@@ -94,8 +94,7 @@ unfolding walk pow
 walk_power zero x h = sym (product-one x h) ∙ product_comm x 1 h (omega arith)
 walk_power (suc n) x h =
     let p : pow 2 n < 65536 = power-lt 2 n (omega arith) in
-    let d : mul 2 x < 65536 = product-lt 2 x (omega arith) h in
-    ap (walk n) (double_product x h) ∙ walk_power n (mul 2 x) d ∙ sym (product_assoc (pow 2 n) 2 x p (omega arith) h)
+    ap (walk n) (double_product x h) ∙ walk_power n (mul 2 x) (product-lt 2 x (omega arith) h) ∙ sym (product_assoc (pow 2 n) 2 x p (omega arith) h)
     ∙ ap (λ v. mul v x) (product_comm (pow 2 n) 2 p (omega arith))
 
 walk_one : (n : ℕ) → walk n 1 ≡ pow 2 n
@@ -189,16 +188,11 @@ pub cancel : (a b c : ℕ) → 0 < a → a < 65536 → b < 65536 → c < 65536 �
 cancel a b c z ha hb hc e =
     let i = has_inverse a z ha in
     let back : (v : ℕ) → v < 65536 → mul i.0 (mul a v) ≡ v = λ v hv.
-    sym (product_assoc i.0 a v i.1.0 ha hv) ∙ ap (λ w. mul w v) (product_comm i.0 a i.1.0 ha ∙ i.1.1)
-    ∙ product_comm 1 v (omega arith) hv ∙ product-one v hv in
+    grind (arith, (product_assoc i.0 a v i.1.0 ha hv), (product_comm i.0 a i.1.0 ha), i.1.1, (product_comm 1 v (omega arith) hv), (product-one v hv)) in
     sym (back b hb) ∙ ap (mul i.0) e ∙ back c hc
 
 pub one_inverse : (a b c : ℕ) → a < 65536 → b < 65536 → c < 65536 → mul a b ≡ 1 → mul a c ≡ 1 → b ≡ c
-one_inverse a b c ha hb hc e f = cancel a b c (positive a e) ha hb hc (e ∙ sym f)
-  where
-    positive : (a : ℕ) → mul a b ≡ 1 → 0 < a
-    positive zero k = absurd (one≢zero (sym k ∙ zero-product b))
-    positive (suc n) k = omega arith
+one_inverse a b c ha hb hc e f = cancel a b c (by_either (cases_eq a 0) (λ none. absurd (one≢zero (sym e ∙ ap (λ x. mul x b) none ∙ zero-product b))) (λ some. omega (arith, some))) ha hb hc (e ∙ sym f)
 
 pub no_zero_divisor : (a b : ℕ) → 0 < a → a < 65536 → b < 65536 → mul a b ≡ 0 → b ≡ 0
 no_zero_divisor a b z ha hb e = cancel a b 0 z ha hb (omega arith) (e ∙ sym (product-zero a))

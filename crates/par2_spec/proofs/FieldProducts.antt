@@ -1,20 +1,16 @@
 -- The laws of the product.
-use Rattle.par2_spec.proofs.Common.{ℕ, zero, suc, ◌+◌, ◌*◌, ◌^◌, ◌<◌, ◌≡◌, refl, sym, ap, ap₂, ◌∙◌, subst, true, eqb, ltb, arith, xor_lt, ltb-true, bit_at, modulus, product, remainder, mul, bit_xor}
+use Rattle.par2_spec.proofs.Common.{ℕ, zero, suc, ◌+◌, ◌*◌, ◌^◌, ◌<◌, ◌≡◌, refl, sym, ap, ◌∙◌, subst, true, eqb, ltb, arith, xor_lt, ltb-true, modulus, product, remainder, mul, bit_xor}
 use Rattle.par2_spec.proofs.FieldBits.{IsLinear, xor_middle, xor_shl, bit_times_xor, bit_xor_times, bits_ind, linear_same, linear_same_tested, linear-zero, tested, tested_at}
 
 product-right : (n a x y : ℕ) → product a (bit_xor x y) n ≡ bit_xor (product a x n) (product a y n)
 unfolding product
 product-right zero a x y = refl
-product-right (suc n) a x y =
-    ap₂ bit_xor (product-right n a x y) (bit_xor_times x y n (a * 2 ^ n))
-    ∙ xor_middle (product a x n) (product a y n) _ _
+product-right (suc n) a x y = grind (arith, (product-right n a x y), (bit_xor_times x y n (a * 2 ^ n)), xor_middle)
 
 product-left : (n b x y : ℕ) → product (bit_xor x y) b n ≡ bit_xor (product x b n) (product y b n)
 unfolding product
 product-left zero b x y = refl
-product-left (suc n) b x y =
-    ap₂ bit_xor (product-left n b x y) (ap (λ v. bit_at b n * v) (xor_shl n x y) ∙ bit_times_xor b n (x * 2 ^ n) (y * 2 ^ n))
-    ∙ xor_middle (product x b n) (product y b n) _ _
+product-left (suc n) b x y = grind (arith, (product-left n b x y), (xor_shl n x y), (bit_times_xor b n (x * 2 ^ n) (y * 2 ^ n)), xor_middle)
 
 remainder-xor : (n x y : ℕ) → remainder (bit_xor x y) n ≡ bit_xor (remainder x n) (remainder y n)
 unfolding remainder

@@ -1,5 +1,5 @@
 -- Doubling as a 16-bit shift, and powers of powers.
-use Rattle.par2_spec.proofs.Common.{ℕ, zero, suc, ◌+◌, ◌*◌, ◌%◌, ◌^◌, ◌<◌, ◌≤◌, ◌≡◌, refl, sym, ap, ◌∙◌, arith, zero-mul, mul_comm, zero-add, xor_block, bit_at, xor_zero_r, modulus, mul, pow, bit_xor}
+use Rattle.par2_spec.proofs.Common.{ℕ, zero, suc, ◌+◌, ◌*◌, ◌%◌, ◌<◌, ◌≤◌, ◌≡◌, refl, sym, ap, ◌∙◌, arith, zero-mul, mul_comm, zero-add, xor_block, xor_zero_r, mul, pow, bit_xor}
 use Rattle.par2_spec.proofs.Basics.{product-one, power-add, power-65535, logarithm}
 use Rattle.par2_spec.proofs.FieldOrder.{double}
 
@@ -8,13 +8,7 @@ pub double_low : (x : ℕ) → x < 32768 → double x ≡ x * 2
 double_low x h = unfold double in grind (arith, xor_zero_r)
 
 pub double_high : (x : ℕ) → 32768 ≤ x → x < 65536 → double x ≡ bit_xor (x * 2 % 65536) 4107
-double_high x h k = unfold double in
-    let b : bit_at x 15 ≡ 1 = omega arith in
-    let e : x * 2 ≡ 1 * 2 ^ 16 + x * 2 % 65536 = omega arith in
-    ap (λ v. bit_xor (x * 2) (v * modulus)) b
-    ∙ ap (λ v. bit_xor v modulus) e
-    ∙ xor_block 16 1 1 (x * 2 % 65536) 4107 (omega arith) (omega arith)
-    ∙ zero-add _
+double_high x h k = unfold double in grind (arith, (xor_block 16 1 1 (x * 2 % 65536) 4107 (omega arith) (omega arith)), zero-add)
 
 pub power-mul : (a m n : ℕ) → a < 65536 → pow (pow a m) n ≡ pow a (n * m)
 unfolding pow
@@ -34,5 +28,4 @@ power_inverse a z h = unfold pow in
     ap (λ v. pow v 65535) (sym log.1.1) ∙ power-mul 2 log.0 65535 (omega arith)
     ∙ ap (pow 2) (mul_comm 65535 log.0) ∙ sym (power-mul 2 65535 log.0 (omega arith))
     ∙ ap (λ v. pow v log.0) power-65535 ∙ one-power log.0 in
-    let once : pow a (1 + 65534) ≡ mul (pow a 1) (pow a 65534) = power-add a 1 65534 h in
-    ap (λ v. mul v (pow a 65534)) (sym (product-one a h)) ∙ sym once ∙ whole
+    ap (λ v. mul v (pow a 65534)) (sym (product-one a h)) ∙ sym (power-add a 1 65534 h) ∙ whole

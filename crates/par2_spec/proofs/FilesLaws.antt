@@ -1,7 +1,7 @@
 -- A repair leaves each of the files that a set was made from.
-use Rattle.par2_spec.proofs.Common.{◌≡◌, ℕ, zero, suc, ◌+◌, ◌*◌, ◌%◌, ◌<◌, ◌≤◌, List, [], ◌∷◌, ◌++◌, length, map, refl, sym, ap, ◌∙◌, subst, cond, true, false, Bool, not, arith, filter, find, zip, Option, Some, None, option_to_list, range_with_len, list_all, AllByRecursion, ForSome, bytes_eq, and_parts, and_from, or_from, or_cases, or_left, or_right, eqb-true, false_from_ne_true, false≢true, not-false, cases_eq, not-true, not-not, md5, pair_of, slice_at, slices, window, windows, is_match, IsRepairable, is_among, Folder, File, has, bytes_of, names, all_slices, record_of, ParSet, Target, target_of_file, MadeFrom, is_slice_size, is_intact, is_incomplete, incomplete, intact_names, known, lost, survivors, NoCollision, matches, aside, put_aside, names_without_match, files_of_slices, after_repair, after_repair_and_purge, par_files, rebuilt_targets, files_of}
+use Rattle.par2_spec.proofs.Common.{◌≡◌, ℕ, zero, suc, ◌+◌, ◌*◌, ◌%◌, ◌<◌, ◌≤◌, List, [], ◌∷◌, ◌++◌, length, map, refl, sym, ap, ◌∙◌, subst, cond, true, false, Bool, not, arith, filter, find, zip, Option, Some, None, option_to_list, range_with_len, list_all, AllByRecursion, ForSome, bytes_eq, and_parts, or_from, or_cases, or_left, or_right, eqb-true, false_from_ne_true, false≢true, not-false, cases_eq, not-true, not-not, md5, pair_of, slice_at, slices, window, windows, is_match, IsRepairable, is_among, Folder, File, has, bytes_of, names, all_slices, record_of, ParSet, Target, target_of_file, MadeFrom, is_slice_size, is_intact, is_incomplete, incomplete, intact_names, known, lost, survivors, NoCollision, matches, aside, put_aside, names_without_match, files_of_slices, after_repair, after_repair_and_purge, par_files, rebuilt_targets, files_of}
 use Rattle.std.specs.FinMap as map_of
-use Rattle.par2_spec.proofs.Basics.{same_name, itself, clash, among-filter, among-append, apart_by_test, slice_begins, all-filter, all_by_test, all_weaker, pairs_with, found_passes, sound_of, size_positive, size_parts, by_either, some_if, all-parts, all-both, all_unmap, filter-map}
+use Rattle.par2_spec.proofs.Basics.{same_name, itself, clash, among-filter, among-append, apart_by_test, slice_begins, all-filter, all_by_test, all_weaker, pairs_with, found_passes, sound_of, size_positive, size_parts, by_either, some_if, all-parts, all-both, all_unmap, filter-map, test_from_all, all-each}
 use Rattle.par2_spec.proofs.MovesLaws.{get_without}
 use Rattle.par2_spec.proofs.RepairLaws.{Fits, match_free, matched_ones, written_ones, other_ones, target_no_aside}
 use Rattle.par2_spec.proofs.RestoredLaws.{IsRunResult, same_slices, true_slices_rebuilt, true_files}
@@ -29,21 +29,17 @@ matched_slices s bytes content a (suc k) begins reported h =
     let r = and_parts (is_match (pair_of x) (slice_at s bytes a)) (list_all (λ z. is_match z.0 z.1) (zip (map pair_of (map (slice_at s content) (range_with_len (a + 1) k))) (map (slice_at s bytes) (range_with_len (a + 1) k)))) h in
     let inside : a * s < length bytes = begins a (omega arith) in
     let same : slice_at s bytes a ≡ x = at_range (λ w. is_match (pair_of x) w ≡ true → w ≡ x) (window s bytes) 0 (length bytes) (a * s) reported.0 (omega arith) (omega (arith, inside)) r.0 in
-    ap (λ y. y ∷ map (slice_at s bytes) (range_with_len (a + 1) k)) same
-    ∙ ap (λ ys. x ∷ ys) (matched_slices s bytes content (a + 1) k (λ j l. begins j (omega (arith, l))) reported.1 r.1)
+    grind (arith, same, (matched_slices s bytes content (a + 1) k (λ j l. begins j (omega (arith, l))) reported.1 r.1))
 
 -- the file's bytes are the only ones among the searched files that are intact for it
 abbrev IsExact : Folder → ℕ → List (List ℕ) → File → Type 0
 IsExact folder s searched file = (name : List ℕ) → is_among searched name ≡ true → is_intact s (target_of_file s file) (bytes_of folder name) ≡ true → bytes_of folder name ≡ file.1
 
-exact_file : (folder : Folder) (s : ℕ) (searched : List (List ℕ)) (file : File) → 0 < s → AllByRecursion (IsRunResult folder searched s) (slices s file.1) → IsExact folder s searched file
-exact_file folder s searched file positive reported name i h = unfold record_of in grind (arith, and_parts, eqb-true, all_weaker, at_name, same_slices, matched_slices, slice_begins)
-
 exact_files : (folder : Folder) (s : ℕ) (searched : List (List ℕ)) (files : List File) → 0 < s → NoCollision folder searched s (all_slices s files) → AllByRecursion (IsExact folder s searched) files
 exact_files folder s searched [] positive reported = tt
 exact_files folder s searched (file ∷ files) positive reported =
     let r = all-parts (IsRunResult folder searched s) (slices s file.1) (all_slices s files) reported in
-    (exact_file folder s searched file positive r.0, exact_files folder s searched files positive r.1)
+    ((λ name i h. unfold record_of in grind (arith, and_parts, eqb-true, all_weaker, at_name, same_slices, matched_slices, slice_begins)), exact_files folder s searched files positive r.1)
 
 -- ---- file by file
 
@@ -171,12 +167,8 @@ module _ (folder : Folder) (base : List ℕ) (files : List File) (s : ℕ) (sear
       is_right c = bytes_eq (md5 c.1) c.0.md5
 
       some_right : (test : Target × List ℕ → Bool) (fs : List File) → list_all is_right (filter test (map (λ (file : File). let c : Target × List ℕ = (target_of_file s file, file.1) in c) fs)) ≡ true
-      some_right test [] = refl
-      some_right test (file ∷ fs) = step (test (target_of_file s file, file.1)) (filter test (map (λ (f : File). let c : Target × List ℕ = (target_of_file s f, f.1) in c) fs)) (some_right test fs)
-        where
-          step : (b : Bool) (cs : List (Target × List ℕ)) → list_all is_right cs ≡ true → list_all is_right (cond b ((target_of_file s file, file.1) ∷ cs) cs) ≡ true
-          step true cs h = and_from _ _ (itself (md5 file.1)) h
-          step false cs h = h
+      some_right test fs = test_from_all is_right _ (all-filter (λ c. is_right c ≡ true) test _
+          (all-each (λ c. is_right c ≡ true) (λ (file : File). let c : Target × List ℕ = (target_of_file s file, file.1) in c) (λ file. itself (md5 file.1)) fs))
 
   -- a repair that also purges leaves them too
   abbrev gone : List (List ℕ)
@@ -187,8 +179,7 @@ module _ (folder : Folder) (base : List ℕ) (files : List File) (s : ℕ) (sear
 
   all_stay : (fs : List File) → AllByRecursion (λ file. IsNamed (target_of_file s file)) fs → AllByRecursion (Holds after) fs → AllByRecursion (Holds (after_repair_and_purge folder m.set searched)) fs
   unfolding record_of
-  all_stay [] n k = tt
-  all_stay (file ∷ fs) n k = (get_without gone after file.0 ∙ ap (λ b. cond b None (map_of.get after file.0)) (stays file.0 n.0.0) ∙ k.0, all_stay fs n.1 k.1)
+  all_stay fs n k = all-both _ _ _ (λ file named held. get_without gone after file.0 ∙ ap (λ b. cond b None (map_of.get after file.0)) (stays file.0 named.0) ∙ held) fs n k
 
   pub purged_files : AllByRecursion (Holds (after_repair folder m.set searched)) files → AllByRecursion (Holds (after_repair_and_purge folder m.set searched)) files
   purged_files h = all_stay files named h

@@ -1,8 +1,6 @@
 -- A change and its inverse; changes in order and their way back; the same for a folder in memory.
-use Rattle.par2_spec.proofs.Common.{◌≡◌, ℕ, ◌+◌, ◌<◌, ◌≤◌, List, [], ◌∷◌, ◌++◌, refl, sym, ap, subst, ◌∙◌, cond, true, Bool, not, ◌&&◌, IsTrue, append_assoc, append-nil, arith, unwrap_or, Some, None, Option, is_some, is_none, nat_lt, same_map, slice_cmp-IsAntisymmetric, nat_cmp-IsAntisymmetric, get-insert, get-remove, get_tied, nat_cmp, eq_by_cmp, is_eq, Ordering, Equal, eq_by_cmp_equiv, slice_cmp, nat_list_cmp_total, nat_tests, and_parts, and_from, Folder, has, bytes_of, Change, Write, Replace, Rename, Remove, FolderState, fault_unless, state_after, places_taken, effect, inverse, is_applicable, effects, way_back, are_applicable, change_refusal, takes_all, state_after_all, common_steps}
+use Rattle.par2_spec.proofs.Common.{◌≡◌, ℕ, ◌+◌, ◌<◌, ◌≤◌, List, [], ◌∷◌, ◌++◌, refl, sym, ap, subst, ◌∙◌, cond, true, Bool, not, ◌&&◌, IsTrue, append_assoc, append-nil, arith, unwrap_or, Some, None, Option, is_some, is_none, nat_lt, same_map, slice_cmp-IsAntisymmetric, nat_cmp-IsAntisymmetric, get-insert, get-remove, get_tied, nat_cmp, eq_by_cmp, eq_by_cmp_equiv, slice_cmp, nat_list_cmp_total, nat_tests, and_parts, and_from, Folder, has, bytes_of, Change, Write, Replace, Rename, Remove, FolderState, state_after, places_taken, effect, inverse, is_applicable, effects, way_back, are_applicable, change_refusal, takes_all, state_after_all, common_steps, not-true}
 use Rattle.std.specs.FinMap as map_of
-use Rattle.par2_spec.specs.declared.ChangeFault.TheVariants.{NameTaken, NoSuchName}
-use Rattle.par2_spec.specs.declared.ChangeFault.{ChangeFault}
 use Rattle.par2_spec.proofs.TestLaws.{none_from}
 
 -- ---- the file of a name in a changed folder
@@ -17,11 +15,8 @@ same q n = eq_by_cmp (slice_cmp nat_cmp) q n
 itself : (n : List ℕ) → same n n ≡ true
 itself n = (eq_by_cmp_equiv nat_list_cmp_total).refl n
 
-equal_by : (o : Ordering) → IsTrue (is_eq o) → o ≡ Equal
-equal_by o p = grind arith
-
 tied : (f : Folder) (q n : List ℕ) → IsTrue (same q n) → map_of.get f q ≡ map_of.get f n
-tied f q n t = sym (get_tied nat_list_cmp_total f q n (equal_by _ t))
+tied f q n t = sym (get_tied nat_list_cmp_total f q n (grind arith))
 
 pub written : (f : Folder) (n b q : List ℕ) → map_of.get (map_of.insert f n b) q ≡ cond (same q n) (Some b) (map_of.get f q)
 written f n b q = get-insert nat_list_cmp_total f n b q
@@ -55,17 +50,11 @@ back b o x g h = grind arith
 moved : (a b : Bool) (x y : List ℕ) (g : Option (List ℕ)) → y ≡ x → (IsTrue a → g ≡ Some x) → (IsTrue b → g ≡ None) → cond a (Some y) (cond b None (cond b (Some x) (cond a None g))) ≡ g
 moved a b x y g e h k = grind arith
 
-undo_Replace : (f : Folder) (n b : List ℕ) → IsTrue (has f n) → map_of.insert (map_of.insert f n b) n (bytes_of f n) ≡ f
-undo_Replace f n b h = same_folder _ _ (λ q. written _ n _ q ∙ ap (cond (same q n) (Some (bytes_of f n))) (written f n b q) ∙ back (same q n) (Some b) _ _ (λ t. tied f q n t ∙ present _ h))
-
-undo_Rename : (f : Folder) (a b : List ℕ) → IsTrue (has f a) → IsTrue (not (has f b)) → effect (effect f (Rename a b)) (Rename b a) ≡ f
-undo_Rename f a b h k = unfold effect in grind (arith, same_folder, written, gone, moved, landed, tied, present, absent)
-
 pub undo_change : (f : Folder) (c : Change) → IsTrue (is_applicable f c) → effect (effect f c) (inverse f c) ≡ f
 unfolding effect inverse is_applicable
 undo_change f (Write n b) h = same_folder _ _ (λ q. gone _ n q ∙ ap (cond (same q n) None) (written f n b q) ∙ off (same q n) b _ (λ t. tied f q n t ∙ absent _ h))
-undo_change f (Replace n b) h = undo_Replace f n b h
-undo_change f (Rename a b) h = unfold effect in undo_Rename f a b (and_parts _ _ h).0 (and_parts _ _ h).1
+undo_change f (Replace n b) h = same_folder _ _ (λ q. written _ n _ q ∙ ap (cond (same q n) (Some (bytes_of f n))) (written f n b q) ∙ back (same q n) (Some b) _ _ (λ t. tied f q n t ∙ present _ h))
+undo_change f (Rename a b) h = unfold effect in grind (arith, same_folder, written, gone, moved, landed, tied, present, absent)
 undo_change f (Remove n) h = same_folder _ _ (λ q. written _ n _ q ∙ ap (cond (same q n) (Some (bytes_of f n))) (gone f n q) ∙ back (same q n) None _ _ (λ t. tied f q n t ∙ present _ h))
 
 -- after a rename the old name is free
@@ -122,17 +111,10 @@ unfolding effects way_back are_applicable
 way_back_twice f [] h = refl
 way_back_twice f (c ∷ cs) h =
     let rest = (and_parts (is_applicable f c) (are_applicable (effect f c) cs) h).1 in
-    let home = way_back (effect f c) cs in
     let end = effects (effect f c) cs in
-    way_back-append end home (inverse f c ∷ [])
-    ∙ ap (λ g. inverse g (inverse f c) ∷ way_back end home) (undo_changes (effect f c) cs rest)
-    ∙ ap (λ d. d ∷ way_back end home) (inverse_twice f c)
-    ∙ ap (λ l. c ∷ l) (way_back_twice (effect f c) cs rest)
+    grind (arith, (way_back-append end (way_back (effect f c) cs) (inverse f c ∷ [])), (undo_changes (effect f c) cs rest), (inverse_twice f c), (way_back_twice (effect f c) cs rest))
 
 -- ---- a folder in memory
-
-not_refused : (b : Bool) (x : ChangeFault) (o : Option ChangeFault) → fault_unless b x o ≡ None → IsTrue b × (o ≡ None)
-not_refused b x o h = grind arith
 
 pub taken_is_applicable : (s : FolderState) (c : Change) → change_refusal s c ≡ None → IsTrue (is_applicable s.files c)
 taken_is_applicable s c h = unfold change_refusal is_applicable in grind arith
@@ -145,7 +127,7 @@ pub inverse_taken : (s : FolderState) (c : Change) → change_refusal s c ≡ No
 unfolding change_refusal effect inverse
 inverse_taken s (Write n b) h = rw (here s.files n b)
 inverse_taken s (Replace n b) h = rw (here s.files n b)
-inverse_taken s (Rename a b) h = grind (arith, not_refused, here, left_behind)
+inverse_taken s (Rename a b) h = grind (arith, here, left_behind)
 inverse_taken s (Remove n) h = rw (nowhere s.files n, has_room (s.vacant + 1) (omega arith))
 
 pub state_back : (s : FolderState) (c : Change) → change_refusal s c ≡ None → state_after (state_after s c) (inverse s.files c) ≡ s
@@ -216,12 +198,7 @@ more_room_all s k (c ∷ cs) h = grind (arith, common_steps, takes_first, takes_
 pub takes_applicable : (s : FolderState) (cs : List Change) → IsTrue (are_applicable s.files cs) → places_taken cs ≤ s.vacant → IsTrue (takes_all s cs)
 unfolding are_applicable change_refusal is_applicable
 takes_applicable s [] h room = takes_none s
-takes_applicable s (Write n b ∷ cs) h room =
-    takes_both s (Write n b) cs (rw ((and_parts (not (has s.files n)) _ h).0, has_room s.vacant (omega arith))) (takes_applicable (state_after s (Write n b)) cs (and_parts _ _ h).1 (omega arith))
-takes_applicable s (Replace n b ∷ cs) h room =
-    takes_both s (Replace n b) cs (rw (and_parts (has s.files n) _ h).0) (takes_applicable (state_after s (Replace n b)) cs (and_parts _ _ h).1 room)
-takes_applicable s (Rename a b ∷ cs) h room =
-    let one = (and_parts (has s.files a && not (has s.files b)) _ h).0 in
-    takes_both s (Rename a b) cs (rw ((and_parts (has s.files a) _ one).0, (and_parts (has s.files a) _ one).1)) (takes_applicable (state_after s (Rename a b)) cs (and_parts _ _ h).1 room)
-takes_applicable s (Remove n ∷ cs) h room =
-    takes_both s (Remove n) cs (rw (and_parts (has s.files n) _ h).0) (takes_applicable (state_after s (Remove n)) cs (and_parts _ _ h).1 (omega arith))
+takes_applicable s (c ∷ cs) h room =
+    let fits : change_refusal s c ≡ None = grind (arith, has_room, and_parts, not-true) in
+    let left : places_taken cs ≤ (state_after s c).vacant = grind arith in
+    takes_both s c cs fits (takes_applicable (state_after s c) cs (and_parts (is_applicable s.files c) _ h).1 left)

@@ -1,7 +1,8 @@
 -- The slices of intact and of matched targets are found.
-use Rattle.par2_spec.proofs.Common.{◌≡◌, ℕ, zero, suc, ◌+◌, ◌*◌, ◌<◌, ◌≤◌, List, [], ◌∷◌, ◌++◌, length, map, refl, sym, ap, ◌∙◌, subst, cond, true, false, Bool, not, ◌&&◌, arith, filter, flat_map, find, zip, Option, Some, None, is_some, is_none, option_to_list, ◌==◌, div_ceil, list_any, list_all, range_with_len, enumerate_from, AllByRecursion, bytes_eq, map-append, and_parts, or_cases, or_left, or_right, eqb-true, false≢true, not-false, div_ceil_times, mul-le-mul_right, add-mul, Pair, window, windows, is_match, found, slice_count, is_among, Folder, bytes_of, has, ParSet, Target, is_intact, is_incomplete, incomplete, intact_names, lost, matches, known, names_without_match}
+use Rattle.par2_spec.proofs.Common.{◌≡◌, ℕ, zero, suc, ◌+◌, ◌*◌, ◌<◌, ◌≤◌, List, [], ◌∷◌, length, map, refl, sym, ◌∙◌, subst, cond, true, false, Bool, not, ◌&&◌, arith, filter, flat_map, find, zip, Option, Some, None, is_some, is_none, option_to_list, ◌==◌, div_ceil, list_any, list_all, range_with_len, enumerate_from, AllByRecursion, bytes_eq, map-append, and_parts, or_cases, or_left, or_right, eqb-true, false≢true, not-false, div_ceil_times, mul-le-mul_right, add-mul, Pair, window, windows, is_match, found, slice_count, is_among, Folder, bytes_of, has, ParSet, Target, is_intact, is_incomplete, incomplete, intact_names, lost, matches, known, names_without_match, map-map}
 use Rattle.par2_spec.proofs.NamesLaws.{same_name, itself, clash, among-filter}
-use Rattle.par2_spec.proofs.ListsLaws.{any-map, any-flat_map, in_range_some, map-cond, all-passing}
+use Rattle.par2_spec.proofs.RankLaws.{all_weaker}
+use Rattle.par2_spec.proofs.ListsLaws.{any-map, any-flat_map, in_range_some, map-cond, all-passing, all-flat_map}
 use Rattle.par2_spec.proofs.SearchLaws.{found_passes, pairs_with}
 use Rattle.par2_spec.proofs.TestLaws.{by_either, is_true, by_true}
 
@@ -37,8 +38,7 @@ slices_are_windows s bytes (pair ∷ pairs) a (suc k) short begins h =
 pub intact_windowed : (s : ℕ) (t : Target) (bytes : List ℕ) → 0 < s → length t.pairs ≤ slice_count s t.length → is_intact s t bytes ≡ true → Windowed s bytes t.pairs
 intact_windowed s t bytes positive short h =
     let r = and_parts (length bytes == t.length) _ h in
-    let same : length bytes ≡ t.length = eqb-true (length bytes) t.length r.0 in
-    slices_are_windows s bytes t.pairs 0 (slice_count s (length bytes)) (subst (λ n. length t.pairs ≤ slice_count s n) (sym same) short)
+    slices_are_windows s bytes t.pairs 0 (slice_count s (length bytes)) (subst (λ n. length t.pairs ≤ slice_count s n) (sym (eqb-true (length bytes) t.length r.0)) short)
     (λ j l. slice_begins (length bytes) s j positive (omega (arith, l))) r.1
 
 any_at : (test : List ℕ → Bool) (names : List (List ℕ)) (name : List ℕ) → is_among names name ≡ true → test name ≡ true → list_any test names ≡ true
@@ -110,23 +110,14 @@ targets_found folder set names positive sized searched =
     let free = filter (λ name. not (is_among (intact_names folder set) name)) names in
     let is_lost = is_among (names_without_match (pairs_with folder set.slice_size free (incomplete folder set))) in
     all_by_test (λ t. is_lost t.name ≡ false → IsFound folder set.slice_size names t) (is_incomplete folder set) set.targets
-    (weaker is_lost set.targets (intact_found folder set names set.targets positive sized searched))
+    (all_weaker _ _ (λ t intact e _. intact e) set.targets (intact_found folder set names set.targets positive sized searched))
     (incomplete_found folder set.slice_size names free (incomplete folder set) is_lost positive (all-filter _ (is_incomplete folder set) set.targets sized)
     (λ q h. (and_parts _ _ (sym (among-filter (λ name. not (is_among (intact_names folder set) name)) names q) ∙ h)).0) (λ q h. h))
-  where
-    weaker : (is_lost : List ℕ → Bool) (ts : List Target) → AllByRecursion (λ t. is_incomplete folder set t ≡ false → IsFound folder set.slice_size names t) ts
-        → AllByRecursion (λ t. is_incomplete folder set t ≡ false → is_lost t.name ≡ false → IsFound folder set.slice_size names t) ts
-    weaker is_lost [] h = tt
-    weaker is_lost (t ∷ ts) h = (λ e _. h.0 e, weaker is_lost ts h.1)
 
 -- ---- the lost slices
 
 abbrev Reported : List (Bool × Option (List ℕ)) → Type 0
 Reported zs = AllByRecursion (λ z. z.0 ≡ false → is_some z.1 ≡ true) zs
-
-reported-append : (xs ys : List (Bool × Option (List ℕ))) → Reported xs → Reported ys → Reported (xs ++ ys)
-reported-append [] ys h k = k
-reported-append (x ∷ xs) ys h k = (h.0, reported-append xs ys h.1 k)
 
 reported-map : (b : Bool) (f : Pair → Option (List ℕ)) (pairs : List Pair) → (b ≡ false → AllByRecursion (λ pair. is_some (f pair) ≡ true) pairs) → Reported (map (λ pair. (b, f pair)) pairs)
 reported-map b f [] h = tt
@@ -134,22 +125,14 @@ reported-map b f (pair ∷ pairs) h = (λ e. (h e).0, reported-map b f pairs (λ
 
 reported_by_target : (is_lost : List ℕ → Bool) (f : Pair → Option (List ℕ)) (ts : List Target) → AllByRecursion (λ t. is_lost t.name ≡ false → AllByRecursion (λ pair. is_some (f pair) ≡ true) t.pairs) ts
     → Reported (flat_map (λ t. map (λ pair. (is_lost t.name, f pair)) t.pairs) ts)
-reported_by_target is_lost f [] h = tt
-reported_by_target is_lost f (t ∷ ts) h = reported-append (map (λ pair. (is_lost t.name, f pair)) t.pairs) _ (reported-map (is_lost t.name) f t.pairs h.0) (reported_by_target is_lost f ts h.1)
+reported_by_target is_lost f ts h = all-flat_map _ _ (λ t. map (λ pair. (is_lost t.name, f pair)) t.pairs) (λ t k. reported-map (is_lost t.name) f t.pairs k) ts h
 
 abbrev second_of : Bool × Option (List ℕ) → Option (List ℕ)
 second_of z = z.1
 
-map_second : (b : Bool) (f : Pair → Option (List ℕ)) (pairs : List Pair) → map second_of (map (λ (pair : Pair). (b, f pair)) pairs) ≡ map f pairs
-map_second b f [] = refl
-map_second b f (pair ∷ pairs) = ap (λ zs. f pair ∷ zs) (map_second b f pairs)
-
 found_by_target : (is_lost : List ℕ → Bool) (f : Pair → Option (List ℕ)) (ts : List Target) → map second_of (flat_map (λ t. map (λ pair. (is_lost t.name, f pair)) t.pairs) ts) ≡ map f (flat_map (λ t. t.pairs) ts)
 found_by_target is_lost f [] = refl
-found_by_target is_lost f (t ∷ ts) =
-    map-append (λ z. z.1) (map (λ pair. (is_lost t.name, f pair)) t.pairs) _
-    ∙ ap (λ front. front ++ map second_of (flat_map (λ u. map (λ pair. (is_lost u.name, f pair)) u.pairs) ts)) (map_second (is_lost t.name) f t.pairs)
-    ∙ ap (λ rest. map f t.pairs ++ rest) (found_by_target is_lost f ts) ∙ sym (map-append f t.pairs (flat_map (λ u. u.pairs) ts))
+found_by_target is_lost f (t ∷ ts) = grind (arith, map-append, (map-map second_of (λ (pair : Pair). (is_lost t.name, f pair)) t.pairs), (found_by_target is_lost f ts), (map-append f t.pairs (flat_map (λ u. u.pairs) ts)))
 
 lost_alike : (n : ℕ) (zs : List (Bool × Option (List ℕ))) → Reported zs → map (λ z. z.0) (filter (λ z. is_none z.1) (enumerate_from n (map (λ z. z.1) zs))) ≡ map (λ z. z.0) (filter (λ z. z.1.0 && is_none z.1.1) (enumerate_from n zs))
 lost_alike n [] h = refl
@@ -173,5 +156,4 @@ pub lost_is : (folder : Folder) (set : ParSet) (names : List (List ℕ)) → 0 <
 lost_is folder set names positive sized searched = unfold known in
     let f = found set.slice_size (map (bytes_of folder) names) in
     let is_lost = is_among (names_without_match (matches folder set names)) in
-    ap (λ found. map (λ z. z.0) (filter (λ z. is_none z.1) (enumerate_from 0 found))) (sym (found_by_target is_lost f set.targets))
-    ∙ lost_alike 0 (slices_by_target folder set names) (reported_by_target is_lost f set.targets (targets_found folder set names positive sized searched))
+    grind (arith, (found_by_target is_lost f set.targets), (lost_alike 0 (slices_by_target folder set names) (reported_by_target is_lost f set.targets (targets_found folder set names positive sized searched))))

@@ -39,9 +39,7 @@ unfolding number vector
 vector-number zero [] h = refl
 vector-number (suc n) (x ∷ v) h =
     let e = h.0 in let first = h.1.0 in
-    let low : (x + 65536 * number v) % 65536 ≡ x = omega (arith, first) in
-    let high : (x + 65536 * number v) / 65536 ≡ number v = omega (arith, first) in
-    ap₂ (λ y w. y ∷ w) low (ap (vector n) high ∙ vector-number n v (omega (arith, e), h.1.1))
+    ap₂ (λ y w. y ∷ w) (omega (arith, first)) (ap (vector n) (omega (arith, first)) ∙ vector-number n v (omega (arith, e), h.1.1))
 vector-number n v h = let e = h.0 in absurd (omega (arith, e))
 
 -- ---- functions from vectors to vectors
@@ -81,9 +79,7 @@ injective-le n m g leads injective = elim (cases_lt m n) [
       let one = between_injective n m g leads injective in
       let found = onto_from_injective (between n g) k (λ i h. between-lt n m g leads i) (λ i j low h e. let same = one i j (omega (arith, low, h, fewer)) (omega (arith, h, fewer)) e in omega (arith, same, low))
       (between n g k) (between-lt n m g leads k) in
-      let low = found.1.0 in
-      let same = one found.0 k (omega (arith, low, fewer)) fewer found.1.1 in
-      absurd (omega (arith, same, low))
+      absurd (omega (arith, one found.0 k (omega (arith, found.1.0, fewer)) fewer found.1.1, found.1.0))
 ]
 
 -- if g is injective on vectors of one length, it is surjective
@@ -114,10 +110,8 @@ onto-le n m g onto = injective-le m n (source n m g onto) (source_leads n m g on
 onto_injective : (n : ℕ) (g : List ℕ → List ℕ) → IsOnto n n g → IsInjective n g
 onto_injective n g onto u v hu hv e =
     let every = injective_onto n (source n n g onto) (source_leads n n g onto) (source_injective n n g onto) in
-    let a = every u hu in
-    let b = every v hv in
     let back : (w : List ℕ) (from : (x : List ℕ) × IsVector n x × (source n n g onto x ≡ w)) → g w ≡ from.0 = λ w from. ap g (sym from.2) ∙ of_source n n g onto from.0 from.1 in
-    sym a.2 ∙ ap (source n n g onto) (sym (back u a) ∙ e ∙ back v b) ∙ b.2
+    sym (every u hu).2 ∙ ap (source n n g onto) (sym (back u (every u hu)) ∙ e ∙ back v (every v hv)) ∙ (every v hv).2
 
 -- ---- the products of the kept exponents with a vector
 
@@ -142,9 +136,7 @@ numbered-lt es g e h = omega arith
 values_are : (f : ℕ → ℕ) (es g : List ℕ) → IsDistinct eqb es → length es ≡ length g → AllByRecursion (λ e. f e ≡ numbered es g e) es → map f es ≡ g
 unfolding numbered IsDistinct
 values_are f [] [] d long h = refl
-values_are f (x ∷ es) (y ∷ g) d long h =
-    ap₂ (λ z zs. z ∷ zs) (h.0 ∙ ap (λ b. cond b y (numbered es g x)) (eq-eqb x x refl))
-    (values_are f es g d.1 (omega (arith, long)) (all-both (λ e. eqb x e ≡ false) (λ e. f e ≡ cond (eqb x e) y (numbered es g e)) (λ e. f e ≡ numbered es g e) (λ e other k. k ∙ ap (λ b. cond b y (numbered es g e)) other) es d.0 h.1))
+values_are f (x ∷ es) (y ∷ g) d long h = grind (arith, eq-eqb, all-both, eqb, (values_are f es g d.1 (omega (arith, long)) (all-both (λ e. eqb x e ≡ false) (λ e. f e ≡ cond (eqb x e) y (numbered es g e)) (λ e. f e ≡ numbered es g e) (λ e other k. k ∙ ap (λ b. cond b y (numbered es g e)) other) es d.0 h.1)))
 values_are f es g d long h = absurd (omega (arith, long))
 
 -- a number above all items of a list
@@ -219,7 +211,6 @@ pub full-iff : (lost survivors : List ℕ) → IsStrictlyIncreasing survivors �
 full-iff lost survivors up = (
   full_is_repairable lost survivors up,
   λ repairable.
-      let most = rank-le lost survivors up in
       let least = injective-le (length lost) (rank lost survivors) (given lost (kept lost survivors)) (given_leads lost (kept lost survivors)) (given_injective lost survivors repairable) in
-      omega (arith, most, least),
+      omega (arith, rank-le lost survivors up, least),
 )

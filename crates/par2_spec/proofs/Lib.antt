@@ -1,5 +1,5 @@
-mod Common
-mod Basics
+pub mod Common
+pub mod Basics
 pub mod FieldBits
 pub mod FieldProducts
 pub mod FieldOrder

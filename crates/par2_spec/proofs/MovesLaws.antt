@@ -1,7 +1,7 @@
 -- Renames and writes in order, as one change of a map.
-use Rattle.par2_spec.proofs.Common.{◌≡◌, ℕ, ◌<◌, ◌^◌, List, [], ◌∷◌, ◌++◌, length, map, refl, sym, ap, ◌∙◌, subst, T, cond, true, false, Bool, not, ◌&&◌, ◌||◌, IsTrue, arith, filter, Option, Some, None, is_some, unwrap_or, get-insert, get-remove, get-retain_keys, slice_cmp-IsAntisymmetric, nat_cmp-IsAntisymmetric, contains_key-keys, entries_sorted, nat_cmp, eq_by_cmp, is_lt, is_eq, Ordering, is_sorted, below_all, slice_cmp, nat_list_cmp_total, bytes_eq, list_any, AllByRecursion, is_eq-slice_cmp, or_left, or_right, or_from, false_from_ne_true, and_from, not_from_false, or_parts, is_name, is_among, Change, Write, Rename, Remove, effect, effects, is_applicable, are_applicable, Folder, has, bytes_of, names, File, files, without, IsFolder, laid_over}
+use Rattle.par2_spec.proofs.Common.{◌≡◌, ℕ, ◌<◌, ◌^◌, List, [], ◌∷◌, ◌++◌, length, map, refl, sym, ap, ◌∙◌, subst, T, cond, true, false, Bool, not, ◌&&◌, ◌||◌, IsTrue, arith, filter, Option, Some, None, is_some, get-insert, get-remove, get-retain_keys, slice_cmp-IsAntisymmetric, nat_cmp-IsAntisymmetric, contains_key-keys, entries_sorted, nat_cmp, is_lt, is_eq, Ordering, is_sorted, below_all, slice_cmp, nat_list_cmp_total, bytes_eq, AllByRecursion, is_eq-slice_cmp, or_left, or_right, or_from, false_from_ne_true, and_from, not_from_false, or_parts, is_name, is_among, Change, Write, Rename, Remove, effect, effects, is_applicable, are_applicable, Folder, has, bytes_of, names, File, files, without, IsFolder, laid_over}
 use Rattle.std.specs.FinMap as map_of
-use Rattle.par2_spec.proofs.Basics.{same_folder, gone_first, none_gone, among-append, same_name, itself, clash, other_name, AreDistinct, not_first, T-parts, none_if, cond-not}
+use Rattle.par2_spec.proofs.Basics.{same_folder, gone_first, none_gone, among-append, same_name, itself, clash, AreDistinct, not_first, T-parts, none_if, cond-not, by_test}
 
 -- ---- the file of a name in a changed folder
 
@@ -12,9 +12,7 @@ pub get_gone : (f : Folder) (n q : List ℕ) → map_of.get (map_of.remove f n) 
 get_gone f n q = get-remove nat_list_cmp_total f n q ∙ ap (λ t. cond t None (map_of.get f q)) (is_eq-slice_cmp q n)
 
 pub get_without : (gone : List (List ℕ)) (f : Folder) (q : List ℕ) → map_of.get (without gone f) q ≡ cond (is_among gone q) None (map_of.get f q)
-get_without gone f q =
-    get-retain_keys f (λ x. not (is_among gone x)) q (λ x e. ap (λ y. not (is_among gone y)) (sym (slice_cmp-IsAntisymmetric nat_cmp-IsAntisymmetric q x e)))
-    ∙ cond-not (is_among gone q) (map_of.get f q) None
+get_without gone f q = grind (arith, get-retain_keys, slice_cmp-IsAntisymmetric, nat_cmp-IsAntisymmetric, cond-not)
 
 pub get_renamed : (f : Folder) (a b q : List ℕ) → map_of.get (effect f (Rename a b)) q ≡ cond (bytes_eq q b) (Some (bytes_of f a)) (cond (bytes_eq q a) None (map_of.get f q))
 get_renamed f a b q = unfold effect in get_put (map_of.remove f a) b (bytes_of f a) q ∙ ap (cond (bytes_eq q b) (Some (bytes_of f a))) (get_gone f a q)
@@ -35,11 +33,7 @@ pub has_renamed : (f : Folder) (a b q : List ℕ) → has (effect f (Rename a b)
 has_renamed f a b q = unfold effect in has_put (map_of.remove f a) b (bytes_of f a) q ∙ ap (λ t. bytes_eq q b || t) (has_gone f a q)
 
 pub has_by_names : (f : Folder) (q : List ℕ) → has f q ≡ is_among (names f) q
-has_by_names f q = contains_key-keys f q ∙ each (names f)
-  where
-    each : (ns : List (List ℕ)) → list_any (eq_by_cmp (slice_cmp nat_cmp) q) ns ≡ is_among ns q
-    each [] = refl
-    each (n ∷ ns) = ap (λ t. t || list_any (eq_by_cmp (slice_cmp nat_cmp) q) ns) (is_eq-slice_cmp q n) ∙ ap (λ t. bytes_eq q n || t) (each ns)
+has_by_names f q = grind (arith, contains_key-keys, is_eq-slice_cmp)
 
 -- the names of a folder, each once
 sorted_once : (es : List (List ℕ × List ℕ)) → T (is_sorted (slice_cmp nat_cmp) es) → AreDistinct (map (λ e. e.0) es)
@@ -80,8 +74,7 @@ pub all_laid : (files : List File) (f g : Folder) → AreDistinct (map (λ file.
 unfolding laid_over
 all_laid [] f g d h = tt
 all_laid (file ∷ files) f g d h = (
-  h file.0 (or_left _ _ (itself file.0)) ∙ get_laid files (map_of.insert f file.0 file.1) file.0 d.0 ∙ get_put f file.0 file.1 file.0
-      ∙ ap (λ t. cond t (Some file.1) (map_of.get f file.0)) (itself file.0),
+  grind (arith, h, (get_laid files (map_of.insert f file.0 file.1) file.0 d.0), (get_put f file.0 file.1 file.0), (itself file.0)),
   all_laid files (map_of.insert f file.0 file.1) g d.1 (λ q i. h q (or_right _ _ i)),
 )
 
@@ -96,25 +89,9 @@ laid_over-append [] more f = refl
 laid_over-append (file ∷ files) more f = laid_over-append files more (map_of.insert f file.0 file.1)
 
 without_put : (gone : List (List ℕ)) (f : Folder) (n b : List ℕ) → without gone (map_of.insert f n b) ≡ cond (not (is_among gone n)) (map_of.insert (without gone f) n b) (without gone f)
-without_put gone f n b = step (is_among gone n) refl
-  where
-    apart : (q : List ℕ) → is_among gone n ≡ true → bytes_eq q n ≡ true → is_among gone q ≡ true
-    apart q h e = subst (λ x. is_among gone x ≡ true) (sym (same_name q n e)) h
-
-    hidden : (t g : Bool) (y x : Option (List ℕ)) → (t ≡ true → g ≡ true) → cond g None (cond t y x) ≡ cond g None x
-    hidden t g y x h = grind arith
-
-    over : (t g : Bool) (y x : Option (List ℕ)) → (t ≡ true → g ≡ false) → cond g None (cond t y x) ≡ cond t y (cond g None x)
-    over t g y x h = grind arith
-
-    step : (t : Bool) → is_among gone n ≡ t → without gone (map_of.insert f n b) ≡ cond (not t) (map_of.insert (without gone f) n b) (without gone f)
-    step true h = same_folder _ _ (λ q.
-        get_without gone (map_of.insert f n b) q ∙ ap (cond (is_among gone q) None) (get_put f n b q)
-        ∙ hidden (bytes_eq q n) (is_among gone q) (Some b) (map_of.get f q) (apart q h) ∙ sym (get_without gone f q))
-    step false h = same_folder _ _ (λ q.
-        get_without gone (map_of.insert f n b) q ∙ ap (cond (is_among gone q) None) (get_put f n b q)
-        ∙ over (bytes_eq q n) (is_among gone q) (Some b) (map_of.get f q) (λ e. subst (λ x. is_among gone x ≡ false) (sym (same_name q n e)) h)
-        ∙ sym (get_put (without gone f) n b q ∙ ap (cond (bytes_eq q n) (Some b)) (get_without gone f q)))
+without_put gone f n b = by_test (is_among gone n)
+    (λ h. rw h (same_folder _ _ (λ q. grind (arith, (get_without gone (map_of.insert f n b) q), (get_put f n b q), (get_without gone f q), (same_name q n)))))
+    (λ h. rw h (same_folder _ _ (λ q. grind (arith, (get_without gone (map_of.insert f n b) q), (get_put f n b q), (get_put (without gone f) n b q), (get_without gone f q), (same_name q n)))))
 
 -- removing names from files put into a folder is the same as putting the files of other names into it
 pub without-laid_over : (gone : List (List ℕ)) (files : List File) (f : Folder) → without gone (laid_over files f) ≡ laid_over (filter (λ file. not (is_among gone file.0)) files) (without gone f)
@@ -128,10 +105,7 @@ same_without gone more f h = grind (arith, same_folder, get_without)
 
 pub without_without : (gone more : List (List ℕ)) (f : Folder) → without gone (without more f) ≡ without (gone ++ more) f
 without_without gone more f =
-    let both : (a b : Bool) (g : Option (List ℕ)) → cond a None (cond b None g) ≡ cond (a || b) None g = λ a b g. grind arith in
-    same_folder _ _ (λ q.
-    get_without gone (without more f) q ∙ ap (cond (is_among gone q) None) (get_without more f q)
-    ∙ both (is_among gone q) (is_among more q) (map_of.get f q) ∙ sym (get_without (gone ++ more) f q ∙ ap (λ t. cond t None (map_of.get f q)) (among-append gone more q)))
+    same_folder _ _ (λ q. grind (arith, (get_without gone (without more f) q), (get_without more f q), (get_without (gone ++ more) f q), (among-append gone more q)))
 
 -- ---- renames in a row
 
@@ -156,17 +130,12 @@ pub record CanMove (f : Folder) (moves : List Move) : Type 0 where
   pub free : (q : List ℕ) → is_among (goals moves) q ≡ true → has f q ≡ false
 
 rest_moves : (f : Folder) (m : Move) (moves : List Move) → CanMove f (m ∷ moves) → CanMove (effect f (Rename m.0 m.1)) moves
-rest_moves f m moves c =
-    let stays : (b a t : Bool) → a ≡ false → t ≡ true → (b || (not a && t)) ≡ true = λ b a t h k. grind arith in
-    let out : (b a t : Bool) → b ≡ false → t ≡ false → (b || (not a && t)) ≡ false = λ b a t h k. grind arith in
-    record {
-      sources_once = c.sources_once.1;
-      goals_once = c.goals_once.1;
-      there = λ q h. has_renamed f m.0 m.1 q
-          ∙ stays (bytes_eq q m.1) (bytes_eq q m.0) (has f q) (not_first m.0 (sources moves) c.sources_once.0 q h) (c.there q (or_right _ _ h));
-      free = λ q h. has_renamed f m.0 m.1 q
-          ∙ out (bytes_eq q m.1) (bytes_eq q m.0) (has f q) (not_first m.1 (goals moves) c.goals_once.0 q h) (c.free q (or_right _ _ h));
-    }
+rest_moves f m moves c = record {
+  sources_once = c.sources_once.1;
+  goals_once = c.goals_once.1;
+  there = λ q h. grind (arith, (has_renamed f m.0 m.1 q), (not_first m.0 (sources moves) c.sources_once.0 q h), (c.there q (or_right _ _ h)));
+  free = λ q h. grind (arith, (has_renamed f m.0 m.1 q), (not_first m.1 (goals moves) c.goals_once.0 q h), (c.free q (or_right _ _ h)));
+}
 
 pub renames_apply : (f : Folder) (moves : List Move) → CanMove f moves → are_applicable f (renames moves) ≡ true
 unfolding are_applicable is_applicable
@@ -178,9 +147,7 @@ arrived f moves = map (λ m. (m.1, bytes_of f m.0)) moves
 
 same_arrived : (f g : Folder) (moves : List Move) → ((q : List ℕ) → is_among (sources moves) q ≡ true → bytes_of f q ≡ bytes_of g q) → arrived f moves ≡ arrived g moves
 same_arrived f g [] h = refl
-same_arrived f g (m ∷ moves) h =
-    ap (λ b. (m.1, b) ∷ arrived f moves) (h m.0 (or_left _ _ (itself m.0)))
-    ∙ ap (λ fs. (m.1, bytes_of g m.0) ∷ fs) (same_arrived f g moves (λ q i. h q (or_right _ _ i)))
+same_arrived f g (m ∷ moves) h = grind (arith, or_left, itself, or_right, (same_arrived f g moves (λ q i. h q (or_right _ _ i))))
 
 goal_no_source : (f : Folder) (m : Move) (moves : List Move) → CanMove f (m ∷ moves) → is_among (sources moves) m.1 ≡ false
 goal_no_source f m moves c = false_from_ne_true _ (λ h. clash (c.there m.1 (or_right (bytes_eq m.1 m.0) _ h)) (c.free m.1 (or_left _ _ (itself m.1))))
@@ -190,19 +157,10 @@ pub renames_lead : (f : Folder) (moves : List Move) → CanMove f moves → effe
 unfolding effects laid_over effect
 renames_lead f [] c = none_gone f
 renames_lead f (m ∷ moves) c =
-    let past : (b a : Bool) (y g : Option (List ℕ)) → b ≡ false → a ≡ false → cond b y (cond a None g) ≡ g = λ b a y g h k. grind arith in
-    let other : (q : List ℕ) → is_among (sources moves) q ≡ true → bytes_eq q m.1 ≡ false =
-    λ q h. other_name q m.1 (λ e. clash (subst (λ x. is_among (sources moves) x ≡ true) e h) (goal_no_source f m moves c)) in
     let base : (g : Folder) → g ≡ effect f (Rename m.0 m.1) → without (sources moves) g ≡ map_of.insert (without (sources (m ∷ moves)) f) m.1 (bytes_of f m.0) = λ g e.
-    ap (without (sources moves)) e ∙ without_put (sources moves) (map_of.remove f m.0) m.1 (bytes_of f m.0)
-    ∙ ap (λ t. cond (not t) (map_of.insert (without (sources moves) (map_of.remove f m.0)) m.1 (bytes_of f m.0)) (without (sources moves) (map_of.remove f m.0)))
-    (goal_no_source f m moves c)
-    ∙ ap (λ x. map_of.insert x m.1 (bytes_of f m.0)) (gone_first f m.0 (sources moves)) in
+    grind (arith, e, (without_put (sources moves) (map_of.remove f m.0) m.1 (bytes_of f m.0)), (goal_no_source f m moves c), (gone_first f m.0 (sources moves))) in
     let g = effect f (Rename m.0 m.1) in
-    renames_lead g moves (rest_moves f m moves c)
-    ∙ ap (λ fs. laid_over fs (without (sources moves) g)) (same_arrived g f moves (λ q h. ap (λ o. unwrap_or o []) (get_renamed f m.0 m.1 q
-    ∙ past (bytes_eq q m.1) (bytes_eq q m.0) (Some (bytes_of f m.0)) (map_of.get f q) (other q h) (not_first m.0 (sources moves) c.sources_once.0 q h))))
-    ∙ ap (laid_over (arrived f moves)) (base g refl)
+    grind (arith, (renames_lead g moves (rest_moves f m moves c)), same_arrived, get_renamed, not_first, (base g refl))
 
 -- ---- writes and removals
 
@@ -214,13 +172,9 @@ writes_lead f (file ∷ files) = writes_lead (map_of.insert f file.0 file.1) fil
 pub writes_apply : (f : Folder) (files : List File) → AreDistinct (map (λ file. file.0) files) → ((q : List ℕ) → is_among (map (λ file. file.0) files) q ≡ true → has f q ≡ false) → are_applicable f (map (λ file. Write file.0 file.1) files) ≡ true
 unfolding are_applicable is_applicable effect
 writes_apply f [] d h = refl
-writes_apply f (file ∷ files) d h =
-    and_from _ _ (not_from_false _ (h file.0 (or_left _ _ (itself file.0))))
-    (writes_apply (map_of.insert f file.0 file.1) files d.1 (λ q i. has_put f file.0 file.1 q ∙ or_from _ _ (not_first file.0 (map (λ other. other.0) files) d.0 q i) (h q (or_right _ _ i))))
+writes_apply f (file ∷ files) d h = grind (arith, and_from, not_from_false, or_left, itself, has_put, or_from, not_first, or_right, (writes_apply (map_of.insert f file.0 file.1) files d.1 (λ q i. has_put f file.0 file.1 q ∙ or_from _ _ (not_first file.0 (map (λ other. other.0) files) d.0 q i) (h q (or_right _ _ i)))))
 
 pub removals_apply : (f : Folder) (gone : List (List ℕ)) → AreDistinct gone → ((q : List ℕ) → is_among gone q ≡ true → has f q ≡ true) → are_applicable f (map Remove gone) ≡ true
 unfolding are_applicable is_applicable effect
 removals_apply f [] d h = refl
-removals_apply f (name ∷ gone) d h =
-    and_from _ _ (h name (or_left _ _ (itself name)))
-    (removals_apply (map_of.remove f name) gone d.1 (λ q i. has_gone f name q ∙ and_from _ _ (not_from_false _ (not_first name gone d.0 q i)) (h q (or_right _ _ i))))
+removals_apply f (name ∷ gone) d h = grind (arith, and_from, or_left, itself, has_gone, not_from_false, not_first, or_right, (removals_apply (map_of.remove f name) gone d.1 (λ q i. has_gone f name q ∙ and_from _ _ (not_from_false _ (not_first name gone d.0 q i)) (h q (or_right _ _ i)))))

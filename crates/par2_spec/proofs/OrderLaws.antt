@@ -1,7 +1,7 @@
 -- The files sorted by File ID, and only one list of them is strictly increasing.
-use Rattle.par2_spec.proofs.Common.{◌≡◌, ◌≢◌, ℕ, suc, ◌+◌, ◌<◌, ◌≤◌, List, [], ◌∷◌, length, map, refl, sym, ap₂, subst, true, false, Bool, eqb, arith, nat_le, if◌then◌else◌, IsPermutation, slice_index, w128, from_le_bytes, AllByRecursion, IsDistinct, IsStrictlyIncreasing, leb-true, leb-false, eqb-true, eq-eqb, false_from_ne_true, All-from_recursion, recursion_from_All, IsDistinct-IsPermutation, Folder, File, bytes_of, FileRecord, id_number, insert_by_id, record_of, in_id_order, files_of}
+use Rattle.par2_spec.proofs.Common.{◌≡◌, ◌≢◌, ℕ, suc, ◌+◌, ◌<◌, ◌≤◌, List, [], ◌∷◌, length, map, refl, sym, ap₂, subst, false, Bool, eqb, arith, nat_le, IsPermutation, slice_index, w128, from_le_bytes, AllByRecursion, IsDistinct, IsStrictlyIncreasing, leb-true, leb-false, eqb-true, eq-eqb, false_from_ne_true, All-from_recursion, recursion_from_All, IsDistinct-IsPermutation, Folder, File, bytes_of, FileRecord, id_number, insert_by_id, record_of, in_id_order, files_of}
 use Rattle.std.proofs.lemmas.List.Sorted.{All-permutation, IsPermutation-sym, IsPermutation-refl, IsPermutation-trans, IsPermutation-cons, IsPermutation-swap, IsPermutation-map}
-use Rattle.par2_spec.proofs.Basics.{clash, all-map, all-both, all_weaker, same_tests}
+use Rattle.par2_spec.proofs.Basics.{clash, all-map, all-both, all_weaker, same_tests, all-each, by_test}
 
 -- ---- increasing lists
 
@@ -20,9 +20,8 @@ rises-increasing n (x ∷ y ∷ xs) h =
     let later : (k : ℕ) → k + 1 < length (map n (y ∷ xs)) → slice_index (map n (y ∷ xs)) k < slice_index (map n (y ∷ xs)) (k + 1) = (λ k l.
     let next : suc k + 1 ≡ suc (k + 1) = omega arith in
     subst (λ m. slice_index (map n (y ∷ xs)) k < slice_index (map n (x ∷ y ∷ xs)) m) next (h (suc k) (omega (arith, l)))) in
-    let first : n x < n y = h 0 (omega arith) in
     let rest = rises-increasing n (y ∷ xs) (λ k l. later k l) in
-    ((first, all_weaker (λ z. n y < n z) (λ z. n x < n z) (λ z l. omega (arith, first, l)) xs rest.0), rest)
+    (((h 0 (omega arith)), all_weaker (λ z. n y < n z) (λ z. n x < n z) (λ z l. omega (arith, (h 0 (omega arith)), l)) xs rest.0), rest)
 rises-increasing n xs h = grind arith
 
 -- a property of one list without its least item holds for the other without its own
@@ -39,9 +38,8 @@ rising_once n [] [] a b forth back = refl
 rising_once n [] (y ∷ ys) a b forth back = absurd ((forth (λ z. ⊥) tt).0)
 rising_once n (x ∷ xs) [] a b forth back = absurd ((back (λ z. ⊥) tt).0)
 rising_once n (x ∷ xs) (y ∷ ys) a b forth back =
-    let low : n y ≤ n x = (back (λ z. n y ≤ n z) (omega arith, all_weaker (λ z. n y < n z) (λ z. n y ≤ n z) (λ z l. omega (arith, l)) ys b.0)).0 in
     let high : n x ≤ n y = (forth (λ z. n x ≤ n z) (omega arith, all_weaker (λ z. n x < n z) (λ z. n x ≤ n z) (λ z l. omega (arith, l)) xs a.0)).0 in
-    let same : n x ≡ n y = omega (arith, low, high) in
+    let same : n x ≡ n y = omega (arith, ((back (λ z. n y ≤ n z) (omega arith, all_weaker (λ z. n y < n z) (λ z. n y ≤ n z) (λ z l. omega (arith, l)) ys b.0)).0), high) in
     let first : x ≡ y = (back (λ z. n z ≡ n x → z ≡ y) ((λ e. refl), all_weaker (λ z. n y < n z) (λ z. n z ≡ n x → z ≡ y) (λ z l e. absurd (omega (arith, l, e, same))) ys b.0)).0 refl in
     ap₂ (λ z zs. z ∷ zs) first (rising_once n xs ys a.1 b.1 (all_but_least n x y xs ys same b.0 forth) (all_but_least n y x ys xs (sym same) a.0 back))
 
@@ -65,13 +63,9 @@ moved-all P xs ys m h = recursion_from_All P ys (All-permutation P xs ys m (All-
 
 moved-inserted : (file : File) (files : List File) → IsPermutation (file ∷ files) (insert_by_id file files)
 moved-inserted file [] = IsPermutation-refl (file ∷ [])
-moved-inserted file (next ∷ files) = step (nat_le (id_number file) (id_number next)) (moved-inserted file files)
-  where
-    step : (b : Bool) → IsPermutation (file ∷ files) (insert_by_id file files) → IsPermutation (file ∷ next ∷ files) (if b then file ∷ next ∷ files else next ∷ insert_by_id file files)
-    step true later = IsPermutation-refl (file ∷ next ∷ files)
-    step false later =
-        IsPermutation-trans (file ∷ next ∷ files) (next ∷ file ∷ files) (next ∷ insert_by_id file files)
-        (IsPermutation-swap (file ∷ next ∷ files) (next ∷ file ∷ files) 0 1 (omega arith) (omega arith) refl) (IsPermutation-cons next (file ∷ files) (insert_by_id file files) later)
+moved-inserted file (next ∷ files) = by_test (nat_le (id_number file) (id_number next)) (λ e. rw e (IsPermutation-refl (file ∷ next ∷ files)))
+    (λ e. rw e (IsPermutation-trans (file ∷ next ∷ files) (next ∷ file ∷ files) (next ∷ insert_by_id file files)
+    (IsPermutation-swap (file ∷ next ∷ files) (next ∷ file ∷ files) 0 1 (omega arith) (omega arith) refl) (IsPermutation-cons next (file ∷ files) (insert_by_id file files) (moved-inserted file files))))
 
 pub moved-ordered : (files : List File) → IsPermutation files (in_id_order files)
 unfolding in_id_order
@@ -80,15 +74,11 @@ moved-ordered (file ∷ files) = IsPermutation-trans (file ∷ files) (file ∷ 
 
 climbs-inserted : (file : File) (files : List File) → Climbs id_number files → Climbs id_number (insert_by_id file files)
 climbs-inserted file [] h = (tt, tt)
-climbs-inserted file (next ∷ files) h = step (nat_le (id_number file) (id_number next)) refl (climbs-inserted file files h.1)
-  where
-    step : (b : Bool) → nat_le (id_number file) (id_number next) ≡ b → Climbs id_number (insert_by_id file files) → Climbs id_number (if b then file ∷ next ∷ files else next ∷ insert_by_id file files)
-    step true e later =
-        let most : id_number file ≤ id_number next = leb-true (id_number file) (id_number next) e in
-        ((most, all_weaker (λ z. id_number next ≤ id_number z) (λ z. id_number file ≤ id_number z) (λ z l. omega (arith, most, l)) files h.0), h)
-    step false e later =
-        let less : id_number next < id_number file = leb-false (id_number file) (id_number next) e in
-        (moved-all (λ z. id_number next ≤ id_number z) (file ∷ files) (insert_by_id file files) (moved-inserted file files) (omega (arith, less), h.0), later)
+climbs-inserted file (next ∷ files) h = by_test (nat_le (id_number file) (id_number next))
+    (λ e. let most : id_number file ≤ id_number next = leb-true (id_number file) (id_number next) e in
+    rw e ((most, all_weaker (λ z. id_number next ≤ id_number z) (λ z. id_number file ≤ id_number z) (λ z l. omega (arith, most, l)) files h.0), h))
+    (λ e. let less : id_number next < id_number file = leb-false (id_number file) (id_number next) e in
+    rw e (moved-all (λ z. id_number next ≤ id_number z) (file ∷ files) (insert_by_id file files) (moved-inserted file files) (omega (arith, less), h.0), climbs-inserted file files h.1))
 
 climbs-ordered : (files : List File) → Climbs id_number (in_id_order files)
 unfolding in_id_order
@@ -139,16 +129,10 @@ rising_records s files records moved up =
 abbrev HasItsBytes : Folder → File → Type 0
 HasItsBytes folder file = (file.0, bytes_of folder file.0) ≡ file
 
-have_their_bytes : (folder : Folder) (names : List (List ℕ)) → AllByRecursion (HasItsBytes folder) (files_of folder names)
-have_their_bytes folder [] = tt
-have_their_bytes folder (name ∷ names) = (refl, have_their_bytes folder names)
-
 files_by_name : (folder : Folder) (files : List File) → AllByRecursion (HasItsBytes folder) files → files_of folder (map (λ file. file.0) files) ≡ files
 files_by_name folder [] h = refl
 files_by_name folder (file ∷ files) h = ap₂ (λ f fs. f ∷ fs) h.0 (files_by_name folder files h.1)
 
 -- reading the files by their names returns the files
 pub files_of_ordered : (folder : Folder) (names : List (List ℕ)) → files_of folder (map (λ file. file.0) (in_id_order (files_of folder names))) ≡ in_id_order (files_of folder names)
-files_of_ordered folder names =
-    let files = files_of folder names in
-    files_by_name folder (in_id_order files) (moved-all (HasItsBytes folder) files (in_id_order files) (moved-ordered files) (have_their_bytes folder names))
+files_of_ordered folder names = grind (arith, (files_by_name folder (in_id_order (files_of folder names)) (moved-all (HasItsBytes folder) (files_of folder names) (in_id_order (files_of folder names)) (moved-ordered (files_of folder names)) (all-each (HasItsBytes folder) (λ name. (name, bytes_of folder name)) (λ name. refl) names))))

@@ -1,5 +1,5 @@
 -- Values, products and quotients of polynomials.
-use Rattle.par2_spec.proofs.Basics.{by_either, xor_middle, product_linear_left, product_linear_right, product_assoc, product_comm, product-one, product-lt, product-zero, zero-product, no_zero_divisor, has_inverse, xor_same, xor_off, all_weaker, all-both, of_contained, contained_first, contained_later, all_from, all_at}
+use Rattle.par2_spec.proofs.Basics.{by_either, xor_middle, product_linear_left, product_linear_right, product_assoc, product_comm, product-one, product-lt, product-zero, zero-product, no_zero_divisor, has_inverse, xor_same, xor_off, all_weaker, all-both, of_contained, contained_first, contained_later, all_from, all_at, all-map}
 use Rattle.par2_spec.proofs.Common.{ℕ, suc, ◌-◌, ◌^◌, ◌<◌, ◌≡◌, refl, sym, ap, ap₂, ◌∙◌, subst, arith, List, [], ◌∷◌, length, map, ◌≢◌, false, get_or, xor_comm, xor_lt, length-map, Contains-get_or, eqb-false, cases_eq, xor_assoc, xor_zero_r, xor_self, xor_zero_l, AllByRecursion, Contains, IsDistinct, mul, IsVector, times, times_root, AreElements, ArePoints, value, plus, with_roots, quotient, bit_xor, nat_eq}
 
 -- ---- elements and lengths
@@ -15,8 +15,7 @@ plus_elements (a ∷ p) (b ∷ q) h k = (xor_lt 16 a b h.0 k.0, plus_elements p 
 plus_elements p q h k = grind arith
 
 pub times_elements : (k : ℕ) (p : List ℕ) → k < 2 ^ 16 → AreElements p → AreElements (times k p)
-times_elements k [] small h = tt
-times_elements k (a ∷ p) small h = (product-lt k a small h.0, times_elements k p small h.1)
+times_elements k p small h = all-map _ _ (mul k) (λ a low. product-lt k a small low) p h
 
 pub with_roots_elements : (points : List ℕ) → AreElements points → AreElements (with_roots points)
 unfolding with_roots
@@ -34,13 +33,10 @@ unfolding plus
 length-plus (a ∷ p) (b ∷ q) e = ap suc (length-plus p q (omega (arith, e)))
 length-plus p q e = grind arith
 
-pub length-times_root : (c : ℕ) (p : List ℕ) → length (times_root c p) ≡ suc (length p)
-length-times_root c p = grind (arith, length-plus, length-map)
-
 pub length-with_roots : (points : List ℕ) → length (with_roots points) ≡ suc (length points)
 unfolding with_roots
 length-with_roots [] = refl
-length-with_roots (c ∷ points) = length-times_root c (with_roots points) ∙ ap suc (length-with_roots points)
+length-with_roots (c ∷ points) = (grind (arith, length-plus, length-map)) ∙ ap suc (length-with_roots points)
 
 pub length-quotient : (c : ℕ) (p : List ℕ) → length (quotient c p) ≡ length p - 1
 unfolding quotient
@@ -68,10 +64,7 @@ value_times k (a ∷ p) z small h hz =
 
 pub value_times_root : (c : ℕ) (p : List ℕ) (z : ℕ) → c < 2 ^ 16 → AreElements p → z < 2 ^ 16 → value (times_root c p) z ≡ mul (bit_xor z c) (value p z)
 value_times_root c p z small h hz = unfold value in
-    value_plus (times c p) (0 ∷ p) z
-    ∙ ap₂ bit_xor (value_times c p z small h hz) (xor_zero_l (mul z (value p z)))
-    ∙ xor_comm (mul c (value p z)) (mul z (value p z))
-    ∙ sym ((product_linear_left (value p z)).on_xor z c)
+    grind (arith, (value_plus (times c p) (0 ∷ p) z), (value_times c p z small h hz), (xor_zero_l (mul z (value p z))), (xor_comm (mul c (value p z)) (mul z (value p z))), ((product_linear_left (value p z)).on_xor z c))
 
 -- ---- division
 
@@ -100,11 +93,8 @@ pub value_divided : (c z : ℕ) (p : List ℕ) → c < 2 ^ 16 → z < 2 ^ 16 →
 unfolding value quotient
 value_divided c z [] small hz h = sym (xor_zero_r _ ∙ product-zero (bit_xor z c))
 value_divided c z (a ∷ p) small hz h =
-    let q = quotient c (a ∷ p) in
     let r = value (a ∷ p) c in
-    ap (λ s. value s z) (divided c a p)
-    ∙ value_plus (times_root c q) (r ∷ []) z
-    ∙ ap₂ bit_xor (value_times_root c q z small (quotient_elements c (a ∷ p) small h) hz) (ap (bit_xor r) (product-zero z) ∙ xor_zero_r r)
+    grind (arith, (divided c a p), (value_plus (times_root c (quotient c (a ∷ p))) (r ∷ []) z), (value_times_root c (quotient c (a ∷ p)) z small (quotient_elements c (a ∷ p) small h) hz), (product-zero z), (xor_zero_r r))
 
 -- ---- roots
 
@@ -140,8 +130,7 @@ plus_zero (a ∷ p) (b ∷ q) h k = (ap₂ bit_xor h.0 k.0, plus_zero p q h.1 k.
 plus_zero p q h k = grind arith
 
 times_zero : (k : ℕ) (p : List ℕ) → AreZero p → AreZero (times k p)
-times_zero k [] h = tt
-times_zero k (a ∷ p) h = (ap (mul k) h.0 ∙ product-zero k, times_zero k p h.1)
+times_zero k p h = all-map _ _ (mul k) (λ a zero. ap (mul k) zero ∙ product-zero k) p h
 
 -- a polynomial is zero if its quotient and its remainder are
 zero_by_quotient : (c : ℕ) (p : List ℕ) → value p c ≡ 0 → AreZero (quotient c p) → AreZero p
@@ -169,8 +158,7 @@ only_zero (c ∷ points) (a ∷ p) are is h =
     (λ z small k. no_root c z (value q z) are.elements.0 small (value-lt q z q_are small) k.0
     (sym (xor_zero_r _) ∙ ap (bit_xor (mul (bit_xor z c) (value q z))) (sym h.0) ∙ sym (value_divided c z (a ∷ p) are.elements.0 small is.1) ∙ k.1))
     points are.elements.1 (all-both (λ z. z ≢ c) (λ z. value (a ∷ p) z ≡ 0) (λ z. (z ≢ c) × (value (a ∷ p) z ≡ 0)) (λ z k l. (k, l)) points (apart c points are) h.1) in
-    let long = length-quotient c (a ∷ p) in
-    let none = only_zero points q (other_points c points are) (let e : suc (length p) ≡ suc (length points) = is.0 in omega (arith, long, e), q_are) at_others in
+    let none = only_zero points q (other_points c points are) (let e : suc (length p) ≡ suc (length points) = is.0 in omega (arith, length-quotient c (a ∷ p), e), q_are) at_others in
     zero_by_quotient c (a ∷ p) h.0 none
 
 -- ---- interpolation
@@ -188,8 +176,7 @@ reached a y w ha hy hw other =
     let hd : d < 2 ^ 16 = xor_lt 16 y a hy ha in (
       mul d b,
       product-lt d b hd inverse.1.0,
-      ap (bit_xor a) (product_assoc d b w hd inverse.1.0 hw ∙ ap (mul d) (product_comm b w inverse.1.0 hw ∙ inverse.1.1) ∙ product-one d hd)
-          ∙ xor_comm a d ∙ xor_off y a,
+      grind (arith, (product_assoc d b w hd inverse.1.0 hw), (product_comm b w inverse.1.0 hw), inverse.1.1, (product-one d hd), (xor_comm a d), (xor_off y a)),
     )
 
 -- the interpolating polynomial (Lagrange): it has as many coefficients as there are points, and these values at them
@@ -238,9 +225,7 @@ unfolding with_roots
 with_roots_monic [] h = refl
 with_roots_monic (c ∷ points) h =
     let w = with_roots points in
-    let long = length-map w (mul c) in
-    subst (λ n. get_or (times_root c w) n 0 ≡ get_or (0 ∷ w) n 0) (long ∙ length-with_roots points) (plus_last (times c w) (0 ∷ w) (ap suc (sym long)))
-    ∙ with_roots_monic points h.1
+    grind (arith, (length-map w (mul c)), (length-with_roots points), (plus_last (times c w) (0 ∷ w) (ap suc (sym (length-map w (mul c))))), (with_roots_monic points h.1))
 
 -- the quotient on division by one of the roots is 0 at the other ones
 pub quotient_others : (points : List ℕ) (c z : ℕ) → AreElements points → Contains points c → Contains points z → z ≢ c → value (quotient c (with_roots points)) z ≡ 0
@@ -249,25 +234,22 @@ quotient_others points c z h first second other =
     let w_are = with_roots_elements points h in
     let hc = of_contained (λ x. x < 2 ^ 16) points c h first in
     let hz = of_contained (λ x. x < 2 ^ 16) points z h second in
-    let none = with_roots_zero points h in
     let q = quotient c w in
     no_root c z (value q z) hc hz (value-lt q z (quotient_elements c w hc w_are) hz) other
-    (sym (xor_zero_r _) ∙ ap (bit_xor (mul (bit_xor z c) (value q z))) (sym (of_contained (λ x. value w x ≡ 0) points c none first))
-    ∙ sym (value_divided c z w hc hz w_are) ∙ of_contained (λ x. value w x ≡ 0) points z none second)
+    (sym (xor_zero_r _) ∙ ap (bit_xor (mul (bit_xor z c) (value q z))) (sym (of_contained (λ x. value w x ≡ 0) points c (with_roots_zero points h) first))
+    ∙ sym (value_divided c z w hc hz w_are) ∙ of_contained (λ x. value w x ≡ 0) points z (with_roots_zero points h) second)
 
 -- the quotient is nonzero at this root
 pub quotient_itself : (points : List ℕ) (c : ℕ) → ArePoints points → Contains points c → value (quotient c (with_roots points)) c ≢ 0
 quotient_itself points c are first e =
     let h = are.elements in
     let w = with_roots points in
-    let hc = of_contained (λ x. x < 2 ^ 16) points c h first in
     let q = quotient c w in
     let at_all = all_from (λ z. value q z ≡ 0) 0 points (λ i low. by_either (cases_eq (get_or points i 0) c)
     (λ same. ap (value q) same ∙ e)
     (λ other. quotient_others points c (get_or points i 0) h first (Contains-get_or points i 0 low) other)) in
     let long = length-quotient c w in
     let long_w = length-with_roots points in
-    let none = only_zero points q are (omega (arith, long, long_w), quotient_elements c w hc (with_roots_elements points h)) at_all in
+    let none = only_zero points q are (omega (arith, long, long_w), quotient_elements c w (of_contained (λ x. x < 2 ^ 16) points c h first) (with_roots_elements points h)) at_all in
     let all_none = zero_by_quotient c w (of_contained (λ x. value w x ≡ 0) points c (with_roots_zero points h) first) none in
-    let one : 0 ≡ 1 = sym (all_at (λ x. x ≡ 0) 0 refl w all_none (length points)) ∙ with_roots_monic points h in
-    omega (arith, one)
+    omega (arith, (sym (all_at (λ x. x ≡ 0) 0 refl w all_none (length points)) ∙ with_roots_monic points h))

@@ -1,8 +1,8 @@
 -- The tests over all vectors and all buffers are equivalent to the definitions.
-use Rattle.par2_spec.proofs.Common.{◌≡◌, ℕ, ◌^◌, ◌<◌, List, [], ◌∷◌, length, map, refl, sym, ap, ◌∙◌, subst, true, Bool, ◌&&◌, not, arith, IsTrue, ◌↔◌, ◌==◌, filter, find, zip, Option, Some, None, is_some, unwrap_or, nat_eq, list_all, list_any, AllByRecursion, AllZip, Contains, ForSome, bytes_eq, and_parts, and_from, eqb-true, eq-eqb, ltb-true, lt-ltb, not_from_false, false_from_ne_true, false≢true, true_from_ne_false, both_ways, not-true, AllZip-long, nat_eq_equiv, coefficients, recovery, dot, kills, is_zero, is_repairable, kept, smaller, Kills, IsRepairable, IsKept, IsVector, Agrees, is_as_known, kept_slices, IsRebuilt, is_independent, is_solvable, agrees, ParSet, lost, survivors, all_lists, all_buffers, all_below, rebuilt}
+use Rattle.par2_spec.proofs.Common.{◌≡◌, ℕ, ◌^◌, ◌<◌, List, [], ◌∷◌, length, map, refl, sym, ap, ◌∙◌, subst, true, Bool, ◌&&◌, not, arith, IsTrue, ◌↔◌, ◌==◌, filter, find, zip, Option, Some, None, is_some, unwrap_or, nat_eq, list_all, list_any, AllByRecursion, AllZip, Contains, ForSome, bytes_eq, and_parts, and_from, eqb-true, eq-eqb, ltb-true, lt-ltb, not_from_false, false_from_ne_true, false≢true, true_from_ne_false, both_ways, not-true, AllZip-long, nat_eq_equiv, coefficients, dot, kills, is_zero, is_repairable, kept, smaller, Kills, IsRepairable, IsKept, IsVector, Agrees, is_as_known, kept_slices, IsRebuilt, is_independent, is_solvable, agrees, ParSet, lost, survivors, all_lists, all_buffers, all_below, rebuilt}
 use Rattle.std.specs.FinMap as map_of
 use Rattle.std.proofs.lemmas.Map.Views.{Contains-from_any, list_any-from_Contains}
-use Rattle.par2_spec.proofs.ListsLaws.{AreOf, IsBelow, some_list, all_below_are, all_below_complete, all_lists_are, all_lists_complete, find_one, filter-none, all-both}
+use Rattle.par2_spec.proofs.ListsLaws.{AreOf, IsBelow, some_list, all_below_are, all_below_complete, all_lists_are, all_lists_complete, find_one, filter-none, all-both, all_unmap, all-map}
 use Rattle.par2_spec.proofs.NamesLaws.{same_name, itself, clash, kept as kept_one}
 use Rattle.par2_spec.proofs.TestLaws.{by_test, is_true, by_true}
 
@@ -29,29 +29,16 @@ test_from_zero v h = test_from_all (λ x. x == 0) v (all_weaker (λ x. x ≡ 0) 
 
 -- every row of some exponents kills the vector
 all_killed : (lost : List ℕ) (v : List ℕ) (es : List ℕ) → list_all (kills v) (map (coefficients lost) es) ≡ true → AllByRecursion (λ e. Kills lost e v) es
-all_killed lost v [] h = tt
-all_killed lost v (e ∷ es) h =
-    let r = and_parts (kills v (coefficients lost e)) (list_all (kills v) (map (coefficients lost) es)) h in
-    (eqb-true (dot (coefficients lost e) v) 0 r.0, all_killed lost v es r.1)
+all_killed lost v es h =
+    all_weaker _ _ (λ e killed. eqb-true _ 0 killed) es (all_unmap (λ row. kills v row ≡ true) (coefficients lost) es (all_from_test (kills v) (map (coefficients lost) es) h))
 
 killed_all : (lost : List ℕ) (v : List ℕ) (es : List ℕ) → AllByRecursion (λ e. Kills lost e v) es → list_all (kills v) (map (coefficients lost) es) ≡ true
-killed_all lost v [] h = refl
-killed_all lost v (e ∷ es) h = and_from _ _ (ap (λ n. n == 0) h.0) (killed_all lost v es h.1)
+killed_all lost v es h = test_from_all (kills v) _ (all-map _ _ (coefficients lost) (λ e k. ap (λ n. n == 0) k) es h)
 
 -- ---- repairable
 
 pub repairable-iff : (lost survivors : List ℕ) → IsTrue (is_repairable lost survivors) ↔ IsRepairable lost survivors
-repairable-iff lost survivors = unfold is_solvable in
-    let rows = map (coefficients lost) survivors in
-    let test = (λ (v : List ℕ). not (is_zero v) && list_all (kills v) rows) in
-    let law = some_list (2 ^ 16) (length lost) test in (
-      λ h v is k. zero_from_test v (true_from_ne_false (is_zero v) (λ z.
-          both_ways _ (not-true (list_any test (all_lists (all_below (2 ^ 16)) (length lost))) h) (is_true (law.1 (v, is, by_true (and_from _ _ (not_from_false _ z) (killed_all lost v survivors k))))))),
-      λ h. not_from_false _ (false_from_ne_true (list_any test (all_lists (all_below (2 ^ 16)) (length lost))) (λ some.
-          let found = law.0 (by_true some) in
-          let r = and_parts (not (is_zero found.0)) (list_all (kills found.0) rows) (is_true found.2) in
-          false≢true (sym (ap not (test_from_zero found.0 (h found.0 found.1 (all_killed lost found.0 survivors r.1)))) ∙ r.0))),
-    )
+repairable-iff lost survivors = unfold is_solvable in grind (arith, some_list, zero_from_test, true_from_ne_false, both_ways, not-true, is_true, by_true, and_from, not_from_false, killed_all, false_from_ne_true, and_parts, false≢true, test_from_zero, all_killed)
 
 -- if the lost slices are not determined, all survivors kill some nonzero vector
 pub killed_vector : (lost survivors : List ℕ) → (IsRepairable lost survivors → ⊥)
@@ -160,9 +147,6 @@ IsSliceBytes s bytes = AreOf (IsBelow 256) s bytes
 buffers_from : (s : ℕ) (slices : List (List ℕ)) → AllByRecursion (λ content. length content ≡ s) slices → AllByRecursion (λ content. AllByRecursion (λ b. b < 256) content) slices → AllByRecursion (IsSliceBytes s) slices
 buffers_from s slices h k = all-both (λ content. length content ≡ s) (λ content. AllByRecursion (λ b. b < 256) content) (IsSliceBytes s) (λ x long bytes. (long, bytes)) slices h k
 
-sizes_from : (s : ℕ) (slices : List (List ℕ)) → AllByRecursion (IsSliceBytes s) slices → AllByRecursion (λ bytes. length bytes ≡ s) slices
-sizes_from s slices h = all_weaker (IsSliceBytes s) (λ bytes. length bytes ≡ s) (λ x t. t.0) slices h
-
 bytes_from : (s : ℕ) (slices : List (List ℕ)) → AllByRecursion (IsSliceBytes s) slices → AllByRecursion (λ bytes. AllByRecursion (λ b. b < 256) bytes) slices
 bytes_from s slices h = all_weaker (IsSliceBytes s) (λ bytes. AllByRecursion (λ b. b < 256) bytes) (λ x t. t.1) slices h
 
@@ -177,7 +161,7 @@ agreeing_found s known recovered slices a =
     (all_lists_complete (IsSliceBytes s) (all_buffers s) (all_lists_complete (IsBelow 256) (all_below 256) (all_below_complete 256) s) (length known) (agrees s known recovered) slices
     (AllZip-long (λ slice content. ForSome slice (λ found. content ≡ found)) known slices a.as_known, buffers_from s slices a.sizes a.bytes)
     (by_true ((agrees-iff s known recovered slices a.sizes a.bytes).1 a))) in
-    (r.0, r.1, (agrees-iff s known recovered r.0 (sizes_from s r.0 r.2.1) (bytes_from s r.0 r.2.1)).0 (is_true r.3))
+    (r.0, r.1, (agrees-iff s known recovered r.0 (all_weaker (IsSliceBytes s) (λ bytes. length bytes ≡ s) (λ x t. t.0) r.0 r.2.1) (bytes_from s r.0 r.2.1)).0 (is_true r.3))
 
 pub rebuilt_agrees : (set : ParSet) (known : List (Option (List ℕ))) (slices : List (List ℕ))
     → Agrees set.slice_size known (kept_slices (lost known) (survivors set) (map_of.entries set.recovery)) slices

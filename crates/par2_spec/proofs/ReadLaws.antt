@@ -12,8 +12,7 @@ among-distinct : (xs : List (List ℕ)) (q : List ℕ) → is_among (distinct xs
 among-distinct [] q = refl
 among-distinct (x ∷ xs) q =
     let step : (b c r : Bool) → (c ≡ true → b ≡ true) → (b || (r && not c)) ≡ (b || r) = λ b c r k. grind arith in
-    ap (λ b. bytes_eq q x || b) (among-filter (λ other. not (bytes_eq x other)) (distinct xs) q ∙ ap (λ b. b && not (bytes_eq x q)) (among-distinct xs q))
-    ∙ step (bytes_eq q x) (bytes_eq x q) (is_among xs q) (λ e. subst (λ y. bytes_eq q y ≡ true) (sym (same_name x q e)) (itself q))
+    grind (arith, (among-filter (λ other. not (bytes_eq x other)) (distinct xs) q), (among-distinct xs q), (step (bytes_eq q x) (bytes_eq x q) (is_among xs q) (λ e. subst (λ y. bytes_eq q y ≡ true) (sym (same_name x q e)) (itself q))))
 
 length-filter-le : (p : List ℕ → Bool) (xs : List (List ℕ)) → length (filter p xs) ≤ length xs
 length-filter-le p [] = omega arith
@@ -39,10 +38,9 @@ distinct_by_length [] e = tt
 distinct_by_length (x ∷ xs) e =
     let p = (λ (other : List ℕ). not (bytes_eq x other)) in
     let a : length (filter p (distinct xs)) ≤ length (distinct xs) = length-filter-le p (distinct xs) in
-    let b : length (distinct xs) ≤ length xs = length-distinct-le xs in
     let c : suc (length (filter p (distinct xs))) ≡ suc (length xs) = e in (
-      false_from_ne_true _ (λ h. clash (filter_full p (distinct xs) (omega (arith, a, b, c)) x (among-distinct xs x ∙ h)) (ap not (itself x))),
-      distinct_by_length xs (omega (arith, a, b, c)),
+      false_from_ne_true _ (λ h. clash (filter_full p (distinct xs) (omega (arith, a, (length-distinct-le xs), c)) x (among-distinct xs x ∙ h)) (ap not (itself x))),
+      distinct_by_length xs (omega (arith, a, (length-distinct-le xs), c)),
     )
 
 -- ---- a set that can be read
@@ -99,8 +97,7 @@ targets_are packets s (d ∷ ds) ts h =
     subst (AreTargetsOf s (d ∷ ds)) b.2 (
       ap (λ n. n ∷ map (λ t. t.name) b.0) first.0 ∙ ap (λ ns. d.name ∷ ns) rest.0,
       (first.2, rest.1),
-      length-append a.0.pairs (flat_map (λ t. t.pairs) b.0) ∙ ap (λ n. n + length (flat_map (λ t. t.pairs) b.0)) (first.2 ∙ ap (slice_count s) first.1)
-          ∙ ap (λ n. slice_count s d.length + n) rest.2 ∙ sym (sum_by-cons (λ d. slice_count s d.length) d ds),
+      grind (arith, (length-append a.0.pairs (flat_map (λ t. t.pairs) b.0)), first.2, first.1, rest.2, (sum_by-cons (λ d. slice_count s d.length) d ds)),
     )
 
 -- if there are as many pairs as slices, there are at most as many
@@ -123,8 +120,7 @@ entries-empty R X = nil_from_length (map_of.entries (map_of.empty {X = X} {R = R
 -- a property of all entries that a map is made from holds for all entries of the map
 pub all-entries : (P : ℕ × List ℕ → Type 0) (rs : List (ℕ × List ℕ)) → AllByRecursion P rs → AllByRecursion P (map_of.entries (map_of.from_entries {R = nat_cmp} rs))
 all-entries P [] h = subst (AllByRecursion P) (sym (entries-empty nat_cmp (List ℕ))) tt
-all-entries P (r ∷ rs) h =
-    subst (AllByRecursion P) (sym (entries-insert nat_cmp_total (map_of.from_entries rs) r.0 r.1)) (put_entry P r.0 r.1 (map_of.entries (map_of.from_entries rs)) h.0 (all-entries P rs h.1))
+all-entries P (r ∷ rs) h = grind (arith, entries-insert, nat_cmp_total, put_entry, (all-entries P rs h.1))
 
 chosen_are : (s : ℕ) (rs : List RecoveryBody) → AreRecovery s (map (λ r. (r.exponent, r.bytes)) (filter (λ r. nat_lt r.exponent 65536 && length r.bytes == s) rs))
 chosen_are s [] = tt
@@ -180,11 +176,10 @@ sound_set base others set h =
     let are = targets_are packets s ds r.targets r.targets_there in
     let fits = and_parts _ (length (distinct (map (λ d. d.name) ds)) == length ds) r.profile in
     let parts = and_parts (nat_le (sum_by (λ d. slice_count s d.length) ds) 32768) (list_all (λ d. is_name d.name) ds) fits.0 in
-    let once : length (distinct (map (λ d. d.name) ds)) ≡ length ds = eqb-true _ _ fits.1 in
     subst IsSound r.made
     (record {
       are_names = ap (list_all is_name) are.0 ∙ list_all-map is_name (λ d. d.name) ds ∙ parts.1;
-      names_once = std_from_distinct _ (subst AreDistinct (sym are.0) (distinct_by_length (map (λ d. d.name) ds) (once ∙ sym (length-map ds (λ d. d.name)))));
+      names_once = std_from_distinct _ (subst AreDistinct (sym are.0) (distinct_by_length (map (λ d. d.name) ds) ((eqb-true _ _ fits.1) ∙ sym (length-map ds (λ d. d.name)))));
       size = r.size;
       pairs = are.1;
       slices = subst (λ n. n ≤ 32768) (sym are.2) (leb-true (sum_by (λ d. slice_count s d.length) ds) 32768 parts.0);
@@ -255,11 +250,9 @@ length-concat s (bytes ∷ buffers) h = grind (arith, length-append, length-conc
 -- the slices of a target hold its bytes
 cut_long : (s size n : ℕ) (buffers : List (List ℕ)) → 0 < s → n ≡ slice_count s size → n ≤ length buffers → AllByRecursion (λ bytes. length bytes ≡ s) buffers → length (take size (concat (take n buffers))) ≡ size
 cut_long s size n buffers positive count some sizes =
-    let whole : length (concat (take n buffers)) ≡ length (take n buffers) * s = length-concat s (take n buffers) (all-take _ n buffers sizes) in
-    let many : length (take n buffers) ≡ n = length-take-le n buffers some in
     let bound : size ≤ (div_ceil size s) * s = (div_ceil_times size s positive).0 in
     let enough : size ≤ length (concat (take n buffers)) =
-    subst (λ k. size ≤ k) (sym (whole ∙ ap (λ k. k * s) (many ∙ count))) bound in
+    subst (λ k. size ≤ k) (sym ((length-concat s (take n buffers) (all-take _ n buffers sizes)) ∙ ap (λ k. k * s) ((length-take-le n buffers some) ∙ count))) bound in
     length-take-le size (concat (take n buffers)) enough
 
 cut_lengths : (s : ℕ) (ts : List Target) (buffers : List (List ℕ)) → 0 < s → AllByRecursion (λ t. length t.pairs ≡ slice_count s t.length) ts → length (flat_map (λ t. t.pairs) ts) ≤ length buffers → AllByRecursion (λ bytes. length bytes ≡ s) buffers

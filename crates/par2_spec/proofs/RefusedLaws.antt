@@ -1,13 +1,10 @@
 -- If a repair is refused as not repairable, other slices also agree.
-use Rattle.par2_spec.proofs.Common.{◌≡◌, ℕ, ◌≤◌, List, [], ◌∷◌, subst, true, Bool, arith, Option, Some, Ok, both_ways, not-true, Fault, NameTooLong, NotRepairable, RepairFailed, first_fault, fault_where, Folder, all_slices, IsRepairable, ParSet, set_of, is_slice_size, candidates, known, lost, survivors, Repair, repair_refusal, refusal, File, MadeFrom, NoCollision, AllByRecursion, AreBytes, AnotherAgrees}
+use Rattle.par2_spec.proofs.Common.{◌≡◌, ℕ, ◌≤◌, List, [], ◌∷◌, subst, true, Bool, arith, Some, Ok, both_ways, not-true, NameTooLong, NotRepairable, RepairFailed, first_fault, fault_where, Folder, all_slices, IsRepairable, ParSet, set_of, is_slice_size, candidates, known, lost, survivors, Repair, repair_refusal, refusal, File, MadeFrom, NoCollision, AllByRecursion, AreBytes, AnotherAgrees}
 use Rattle.std.specs.FinMap as map_of
 use Rattle.par2_spec.proofs.Basics.{sound_of, size_parts, repairable-iff}
 use Rattle.par2_spec.proofs.ExistLaws.{another_agrees}
 use Rattle.par2_spec.proofs.RestoredLaws.{true_slices_agree}
 use Rattle.par2_spec.proofs.AcceptedCommands.{missing, in_full, in_part}
-
-is_other : (f : Fault) (m r : ℕ) → (f ≡ NotRepairable m r → ⊥) → ◌≡◌ {A = Option Fault} (Some f) (Some (NotRepairable m r)) → ⊥
-is_other f m r apart e = grind arith
 
 -- only the first cause returns this fault
 pub first_cause : (b c d : Bool) (l n m r : ℕ) → first_fault (fault_where b (NotRepairable l n) ∷ fault_where c NameTooLong ∷ fault_where d RepairFailed ∷ []) ≡ Some (NotRepairable m r) → b ≡ true
@@ -19,7 +16,7 @@ unrepairable folder set searched m r e repairable = unfold repair_refusal in gri
 -- a repair over a set that is read is refused for the set's cause or for a missing file
 refused_by_set : (folder : Folder) (base : List ℕ) (extras : List (List ℕ)) (purge : Bool) (set : ParSet) (m r : ℕ) → set_of folder base ≡ Ok set → refusal folder (Repair base extras purge) ≡ Some (NotRepairable m r)
     → repair_refusal folder set (candidates folder set extras) ≡ Some (NotRepairable m r)
-refused_by_set folder base extras purge set m r reads e = unfold refusal in grind (arith, missing, in_full, is_other, in_part)
+refused_by_set folder base extras purge set m r reads e = unfold refusal in grind (arith, missing, in_full, in_part)
 
 pub size_two : (s : ℕ) → is_slice_size s ≡ true → 2 ≤ s
 size_two s h = let least : 4 ≤ s = (size_parts s h).1 in omega (arith, least)

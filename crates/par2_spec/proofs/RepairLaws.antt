@@ -2,7 +2,7 @@
 use Rattle.par2_spec.proofs.ReadLaws.{FitsRepair}
 use Rattle.par2_spec.proofs.Common.{◌≡◌, ℕ, List, [], ◌∷◌, ◌++◌, length, map, inl, inr, refl, sym, ap, ◌∙◌, subst, cond, true, false, Bool, not, ◌&&◌, ◌||◌, take, drop, arith, filter, filter_map, zip, Option, Some, None, Ok, option_map, is_some, is_none, unwrap_or, if◌then◌else◌, concat, list_all, AllByRecursion, ForSome, bytes_eq, map-append, map-id, map-map, and_parts, and_right, or_parts, or_cases, or_left, or_right, or_from, and_from, false_from_ne_true, cases_Bool, not_from_false, false≢true, not-true, and-false, is_among, Folder, has, bytes_of, names, File, without, laid_over, Write, Rename, Remove, effects, are_applicable, ParSet, Target, set_of, target_names, candidates, known, incomplete, incomplete_names, is_incomplete, intact_names, matching, matches, aside, put_aside, files_of_slices, cut_into, rebuilt, matched_files, names_without_match, aside_files, is_par_file, par_files, after_repair_and_purge, HoldsRepaired, AreFew, taken_for, rebuilt_targets, after_repair, now_at, purge_changes, repair_changes, repair_removals}
 use Rattle.std.specs.FinMap as map_of
-use Rattle.par2_spec.proofs.Basics.{effects-append, are_applicable-append, removals_lead, same_name, itself, clash, AreDistinct, among-filter, among-append, among_some, apart_by_test, distinct-map, distinct-filter, distinct_some, image_of, image_in, distinct-append, distinct_from_std, each_there, candidates_there, sound_of, names_of_pairs, taken_was_free, taken_once, by_either, same_tests, none_if, some_if, filter-map, map-cond}
+use Rattle.par2_spec.proofs.Basics.{effects-append, are_applicable-append, removals_lead, same_name, itself, clash, AreDistinct, among-filter, among-append, among_some, apart_by_test, distinct-map, distinct-filter, distinct_some, image_of, image_in, distinct-append, distinct_from_std, each_there, candidates_there, sound_of, names_of_pairs, taken_was_free, taken_once, by_either, same_tests, none_if, some_if, filter-map, map-cond, all_unmap, by_test}
 use Rattle.par2_spec.proofs.MovesLaws.{Move, CanMove, renames, sources, goals, arrived, renames_apply, renames_lead, writes_apply, writes_lead, get_put, get_laid, get_without, has_laid, has_without, has_by_names, laid_over-append, without-laid_over, without_without, same_without, removals_apply, names_once, all_laid}
 use Rattle.par2_spec.proofs.AsideNames.{aside_out, aside_one, aside_no_target}
 
@@ -19,31 +19,25 @@ moves_of now ms = filter_map (λ m. option_map (λ name. (now name, m.0.name)) m
 
 sources-moves : (now : List ℕ → List ℕ) (ms : Pairs) → sources (moves_of now ms) ≡ map now (taken ms)
 sources-moves now [] = refl
-sources-moves now ((t, None) ∷ ms) = sources-moves now ms
-sources-moves now ((t, Some x) ∷ ms) = ap (λ ns. now x ∷ ns) (sources-moves now ms)
+sources-moves now ((t, found) ∷ ms) = grind (arith, (sources-moves now ms))
 
 goals-moves : (now : List ℕ → List ℕ) (ms : Pairs) → goals (moves_of now ms) ≡ map (λ m. m.0.name) (filter (λ m. is_some m.1) ms)
 goals-moves now [] = refl
-goals-moves now ((t, None) ∷ ms) = goals-moves now ms
-goals-moves now ((t, Some x) ∷ ms) = ap (λ ns. t.name ∷ ns) (goals-moves now ms)
+goals-moves now ((t, found) ∷ ms) = grind (arith, (goals-moves now ms))
 
 renames-moves : (now : List ℕ → List ℕ) (ms : Pairs) → filter_map (λ m. option_map (λ name. Rename (now name) m.0.name) m.1) ms ≡ renames (moves_of now ms)
 renames-moves now [] = refl
-renames-moves now ((t, None) ∷ ms) = renames-moves now ms
-renames-moves now ((t, Some x) ∷ ms) = ap (λ cs. Rename (now x) t.name ∷ cs) (renames-moves now ms)
+renames-moves now ((t, found) ∷ ms) = grind (arith, (renames-moves now ms))
 
 -- each match gets its target's name, with its bytes of the folder
 arrived-moves : (now : List ℕ → List ℕ) (f g : Folder) (ms : Pairs) → ((q : List ℕ) → is_among (taken ms) q ≡ true → bytes_of g (now q) ≡ bytes_of f q) → arrived g (moves_of now ms) ≡ matched_files f ms
 arrived-moves now f g [] h = refl
 arrived-moves now f g ((t, None) ∷ ms) h = arrived-moves now f g ms h
-arrived-moves now f g ((t, Some x) ∷ ms) h =
-    ap (λ b. (t.name, b) ∷ arrived g (moves_of now ms)) (h x (or_left _ _ (itself x)))
-    ∙ ap (λ fs. (t.name, bytes_of f x) ∷ fs) (arrived-moves now f g ms (λ q i. h q (or_right _ _ i)))
+arrived-moves now f g ((t, Some x) ∷ ms) h = grind (arith, arrived, or_left, itself, or_right, (arrived-moves now f g ms (λ q i. h q (or_right _ _ i))))
 
 names-matched : (f : Folder) (ms : Pairs) → map (λ file. file.0) (matched_files f ms) ≡ map (λ m. m.0.name) (filter (λ m. is_some m.1) ms)
 names-matched f [] = refl
-names-matched f ((t, None) ∷ ms) = names-matched f ms
-names-matched f ((t, Some x) ∷ ms) = ap (λ ns. t.name ∷ ns) (names-matched f ms)
+names-matched f ((t, found) ∷ ms) = grind (arith, (names-matched f ms))
 
 -- ---- the files under other names
 
@@ -55,23 +49,12 @@ get_under : (g : List ℕ → List ℕ) (f base : Folder) (ns : List (List ℕ))
 unfolding laid_over
 get_under g f base [] one x h = absurd (false≢true h)
 get_under g f base (n ∷ ns) one x h =
-    step (is_among ns x) refl (bytes_eq x n) refl h (get_under g f (map_of.insert base (g n) (bytes_of f n)) ns one x)
-  where
-    later : Folder
-    later = map_of.insert base (g n) (bytes_of f n)
-
-    others : is_among ns x ≡ false → is_among (map (λ file. file.0) (put_under g f ns)) (g x) ≡ false
-    others out = false_from_ne_true _ (λ i.
-        let r = image_of g ns (g x) (sym (ap (λ qs. is_among qs (g x)) (map-map (λ file. file.0) (λ m. (g m, bytes_of f m)) ns)) ∙ i) in
-        clash r.1 (subst (λ y. is_among ns y ≡ false) (one x r.0 r.2) out))
-
-    step : (a : Bool) → is_among ns x ≡ a → (b : Bool) → bytes_eq x n ≡ b → (b || a) ≡ true → (is_among ns x ≡ true → map_of.get (laid_over (put_under g f ns) later) (g x) ≡ Some (bytes_of f x)) → map_of.get (laid_over (put_under g f ns) later) (g x) ≡ Some (bytes_of f x)
-    step true i b j k rest = rest i
-    step false i true j k rest =
-        get_laid (put_under g f ns) later (g x) (others i) ∙ get_put base (g n) (bytes_of f n) (g x)
-        ∙ ap (λ y. cond (bytes_eq (g x) (g y)) (Some (bytes_of f y)) (map_of.get base (g x))) (sym (same_name x n j))
-        ∙ ap (λ t. cond t (Some (bytes_of f x)) (map_of.get base (g x))) (itself (g x))
-    step false i false j k rest = absurd (false≢true k)
+    let later = map_of.insert base (g n) (bytes_of f n) in
+    let others : is_among ns x ≡ false → is_among (map (λ file. file.0) (put_under g f ns)) (g x) ≡ false = λ out. false_from_ne_true _ (λ i.
+    let r = image_of g ns (g x) (sym (ap (λ qs. is_among qs (g x)) (map-map (λ file. file.0) (λ m. (g m, bytes_of f m)) ns)) ∙ i) in
+    clash r.1 (subst (λ y. is_among ns y ≡ false) (one x r.0 r.2) out)) in
+    by_test (is_among ns x) (λ i. get_under g f later ns one x i)
+    (λ i. grind (arith, (get_laid (put_under g f ns) later (g x) (others i)), (get_put base (g n) (bytes_of f n) (g x)), (same_name x n), (itself (g x))))
 
 -- ---- the targets that are written
 
@@ -282,11 +265,7 @@ module _ (folder : Folder) (set : ParSet) (given : List (List ℕ)) (fits : Fits
     -- the asides that are left
     asides_left : (ns : List (List ℕ)) → ((n : List ℕ) → is_among ns n ≡ true → is_among moved n ≡ true) → filter (λ file. not (is_among (map now taken_names) file.0)) (put_under off folder ns) ≡ put_under off folder (filter (λ n. not (is_among taken_names n)) ns)
     asides_left [] k = refl
-    asides_left (n ∷ ns) k =
-        ap (λ b. cond (not b) ((off n, bytes_of folder n) ∷ filter (λ file. not (is_among (map now taken_names) file.0)) (put_under off folder ns)) (filter (λ file. not (is_among (map now taken_names) file.0)) (put_under off folder ns)))
-        (aside_taken n (k n (or_left _ _ (itself n))))
-        ∙ ap (λ fs. cond (not (is_among taken_names n)) ((off n, bytes_of folder n) ∷ fs) fs) (asides_left ns (λ m i. k m (or_right _ _ i)))
-        ∙ sym (map-cond (λ m. (off m, bytes_of folder m)) (not (is_among taken_names n)) n (filter (λ m. not (is_among taken_names m)) ns))
+    asides_left (n ∷ ns) k = grind (arith, aside_taken, or_left, itself, or_right, map-cond, (asides_left ns (λ m i. k m (or_right _ _ i))))
 
     -- the names that are gone from the folder
     gone_alike : (q : List ℕ) → has folder q ≡ true → is_among (map now taken_names ++ moved) q ≡ is_among (map (λ m. m.0.name) (matches folder set given) ++ taken_names) q
@@ -336,11 +315,7 @@ module _ (folder : Folder) (set : ParSet) (given : List (List ℕ)) (fits : Fits
     -- ---- together
 
     changes_are : repair_changes folder set given ≡ renames first ++ renames second ++ map (λ file. Write file.0 file.1) written
-    changes_are = unfold repair_changes in
-        ap (λ cs. cs ++ filter_map (λ m. option_map (λ name. Rename (now name) m.0.name) m.1) (matches folder set given) ++ map (λ c. Write c.0.name c.1) (rebuilt_targets folder set given))
-        (sym (map-map (λ m. Rename m.0 m.1) (λ n. (n, off n)) moved))
-        ∙ ap (λ cs. renames first ++ cs ++ map (λ c. Write c.0.name c.1) (rebuilt_targets folder set given)) (renames-moves now (matches folder set given))
-        ∙ ap (λ cs. renames first ++ renames second ++ cs) (sym (map-map (λ file. Write file.0 file.1) (λ c. (c.0.name, c.1)) (rebuilt_targets folder set given)))
+    changes_are = unfold repair_changes in grind (arith, map-map, (renames-moves now (matches folder set given)))
 
     -- the changes of a repair apply in order
     pub repair_applies : are_applicable folder (repair_changes folder set given) ≡ true
@@ -395,37 +370,10 @@ module _ (folder : Folder) (set : ParSet) (given : List (List ℕ)) (fits : Fits
 
     -- the names to remove that exist after the repair are those that are removed
     removed_alike : (q : List ℕ) → has (after_repair folder set given) q ≡ true → is_among (map off left ++ par_left) q ≡ is_among (map off moved ++ par_files folder set) q
-    removed_alike q k =
-        let to : is_among (map off left ++ par_left) q ≡ true → is_among (map off moved ++ par_files folder set) q ≡ true = (λ h. elim (or_cases (is_among (map off left) q) (is_among par_left q) (sym (among-append (map off left) par_left q) ∙ h)) as (λ _. is_among (map off moved ++ par_files folder set) q ≡ true) [
-          | inl i ↦ let r = image_of off left q i in among-append (map off moved) (par_files folder set) q
-              ∙ or_left _ _ (subst (λ x. is_among (map off moved) x ≡ true) (sym r.2) (image_in off moved r.0 (left_moved r.0 r.1)))
-          | inr i ↦ among-append (map off moved) (par_files folder set) q ∙ or_right _ _ (par_left_par q i)
-        ]) in
-        let was_par : is_among (par_files folder set) q ≡ true → is_among taken_names q ≡ false = λ i. false_from_ne_true (is_among taken_names q) (λ j. clash k (par_taken q i j)) in
-        let from : is_among (map off moved ++ par_files folder set) q ≡ true → is_among (map off left ++ par_left) q ≡ true = (λ h. by_either (or_cases (is_among (map off moved) q) (is_among (par_files folder set) q) (sym (among-append (map off moved) (par_files folder set) q) ∙ h))
-        (λ i. let r = image_of off moved q i in among-append (map off left) par_left q ∙ or_left _ _ (was_aside r.0 r.2))
-        (λ i. among-append (map off left) par_left q ∙ or_right _ _ (par_left_is q ∙ and_from _ _ i (not_from_false _ (was_par i))))) in
-        same_tests _ _ to from
-      where
-        was_aside : (n : List ℕ) → q ≡ off n → is_among (map off left) q ≡ true
-        was_aside n e = subst (λ x. is_among (map off left) x ≡ true) (sym e)
-            (only (is_among (map off left) (off n)) (not (is_among gone_names (off n))) (has folder (off n)) (free.aside_free n) (sym (after_other (off n) (fits.aside_apart n)) ∙ subst (λ x. has (after_repair folder set given) x ≡ true) e k))
-          where
-            only : (a b c : Bool) → c ≡ false → (a || (b && c)) ≡ true → a ≡ true
-            only true b c i j = refl
-            only false true c i j = absurd (clash j i)
-            only false false c i j = absurd (false≢true j)
+    removed_alike q k = grind (arith, or_cases, among-append, image_of, or_left, image_in, left_moved, or_right, par_left_par, false_from_ne_true, clash, par_taken, by_either, par_left_is, and_from, not_from_false, same_tests, after_other, false≢true)
 
     removed_there : (q : List ℕ) → is_among (map off left ++ par_left) q ≡ true → has (after_repair folder set given) q ≡ true
-    removed_there q h =
-        let stays : is_among (par_files folder set) q ≡ true → not (is_among taken_names q) ≡ true → is_among gone_names q ≡ false = λ i j. among-append (map (λ m. m.0.name) (matches folder set given)) taken_names q
-        ∙ or_from _ _ (ap (λ ns. is_among ns q) heads ∙ false_from_ne_true _ (λ m. clash (wanted_is_target q m) (par_no_target q i))) (not-true (is_among taken_names q) j) in
-        elim (or_cases (is_among (map off left) q) (is_among par_left q) (sym (among-append (map off left) par_left q) ∙ h)) as (λ _. has (after_repair folder set given) q ≡ true) [
-          | inl i ↦ let r = image_of off left q i in after_other q (subst (λ x. is_among targets x ≡ false) (sym r.2) (fits.aside_apart r.0)) ∙ or_left _ _ i
-          | inr i ↦
-              let r = and_parts _ _ (sym (par_left_is q) ∙ i) in
-              after_other q (par_no_target q r.0) ∙ or_right _ _ (and_from _ _ (not_from_false _ (stays r.0 r.1)) (par_there q r.0))
-        ]
+    removed_there q h = grind (arith, among-append, or_from, heads, false_from_ne_true, clash, wanted_is_target, par_no_target, not-true, or_cases, image_of, after_other, or_left, and_parts, par_left_is, or_right, and_from, not_from_false, par_there)
 
     removed_once : AreDistinct (map off left ++ par_left)
     removed_once = distinct-append (map off left) par_left
@@ -467,10 +415,6 @@ module _ (folder : Folder) (set : ParSet) (given : List (List ℕ)) (fits : Fits
   matched_hold f after ((t, None) ∷ ms) h = (λ x e. absurd (false≢true (ap is_some e)), matched_hold f after ms h)
   matched_hold f after ((t, Some x) ∷ ms) h = (λ y e. subst (λ z. map_of.get after t.name ≡ Some (bytes_of f z)) (ap (λ o. unwrap_or o x) e) h.0, matched_hold f after ms h.1)
 
-  written_hold : (after : Folder) (cs : List (Target × List ℕ)) → AllByRecursion (λ (file : File). map_of.get after file.0 ≡ Some file.1) (map (λ c. (c.0.name, c.1)) cs) → AllByRecursion (λ c. map_of.get after c.0.name ≡ Some c.1) cs
-  written_hold after [] h = tt
-  written_hold after (c ∷ cs) h = (h.0, written_hold after cs h.1)
-
   unaside : (q : List ℕ) → is_among (map (aside folder set) (left folder set given fits)) q ≡ false → map_of.get with_asides q ≡ map_of.get base q
   unaside q h = get_laid (aside_files folder set (matching folder set given)) base q (ap (λ ns. is_among ns q) (map-map (λ file. file.0) (λ n. (aside folder set n, bytes_of folder n)) (left folder set given fits)) ∙ h)
 
@@ -485,7 +429,7 @@ module _ (folder : Folder) (set : ParSet) (given : List (List ℕ)) (fits : Fits
   -- each other incomplete target has its rebuilt bytes
   pub written_ones : AllByRecursion (λ c. map_of.get (after_repair folder set given) c.0.name ≡ Some c.1) (rebuilt_targets folder set given)
   written_ones =
-      written_hold (after_repair folder set given) (rebuilt_targets folder set given)
+      all_unmap (λ file. map_of.get (after_repair folder set given) file.0 ≡ Some file.1) (λ c. (c.0.name, c.1)) (rebuilt_targets folder set given)
       (all_laid (written folder set given fits) (settled folder set given fits) (after_repair folder set given)
       (subst AreDistinct (sym (written_names folder set given fits)) (distinct-filter (is_among (unwon folder set given fits)) (targets folder set given fits) fits.once))
       (λ q h. ap (λ f. map_of.get f q) after_is))

@@ -1,7 +1,7 @@
 -- The slices of a file restore it, and the slices of the files that a set was made from are rebuilt.
 use Rattle.par2_spec.proofs.Common.{◌≡◌, ℕ, zero, suc, ◌+◌, ◌-◌, ◌*◌, ◌%◌, ◌<◌, ◌≤◌, List, [], ◌∷◌, ◌++◌, length, map, take, drop, refl, sym, ap, ◌∙◌, subst, true, Bool, arith, inl, inr, length-append, length-drop, zero-mul, append_assoc, append-nil, flat_map, filter, find, zip, replicate, ◌==◌, Option, Some, range_with_len, list_any, concat, AllByRecursion, AllZip, ForSome, add-mul, drop-append_seam, take-append_seam, take-append-add, div_ceil_times, length-take, length-take-le, length-replicate, length-map, take_all, drop_all, take-append-drop, drop-drop, map-append, cases_lt, pair_of, slice_count, slice_at, slices, windows, is_match, found, window, recovery, Agrees, kept_slices, kept, Folder, File, bytes_of, all_slices, record_of, Target, target_of_file, MadeFrom, all_pairs, lost, survivors, NoCollision, known, cut_into, files_of_slices, TrueSlicesAreRebuilt}
 use Rattle.std.specs.FinMap as map_of
-use Rattle.par2_spec.proofs.Basics.{all-append, all-take, all-drop, all-each, all-flat_map-map, found_one, all-filter, rebuilt_is_only, all_weaker}
+use Rattle.par2_spec.proofs.Basics.{all-append, all-take, all-drop, all-each, all-flat_map-map, found_one, all-filter, rebuilt_is_only, all_weaker, all-flat_map}
 use Rattle.par2_spec.proofs.UniqueLaws.{agreeing_is_rebuilt}
 
 -- ---- a slice
@@ -47,16 +47,11 @@ rest_joined s bytes (suc n) j le =
           let part : length (take s rest) ≡ s = length-take-le s rest (omega (arith, full, long)) in
           let whole : slice_at s bytes j ≡ take s rest = ap (λ k. take s rest ++ replicate k 0) (let e : s - length (take s rest) ≡ 0 = omega (arith, part) in e) ∙ append-nil (take s rest) in
           let cut : m ≡ length (take s rest) + (length bytes - (j + 1) * s) = omega (arith, part, full, next) in
-          ap (λ x. take m (x ++ later)) whole ∙ ap (λ k. take k (take s rest ++ later)) cut ∙ take-append-add (take s rest) later (length bytes - (j + 1) * s)
-          ∙ ap (λ x. take s rest ++ x) (here ∙ ap (λ k. drop k bytes) (next ∙ (let e : j * s + 1 * s ≡ j * s + s = omega arith in e)) ∙ sym (drop-drop s (j * s) bytes)) ∙ take-append-drop s rest
+          grind (arith, whole, cut, (take-append-add (take s rest) later (length bytes - (j + 1) * s)), here, next, let e : j * s + 1 * s ≡ j * s + s = omega arith in e, (drop-drop s (j * s) bytes), (take-append-drop s rest))
       | inl short ↦
           let whole : take s rest ≡ rest = take_all s rest (omega (arith, short, long)) in
-          ap (λ x. take m ((x ++ replicate (s - length x) 0) ++ later)) whole ∙ ap (take m) (append_assoc rest (replicate (s - length rest) 0) later)
-          ∙ ap (λ k. take k (rest ++ (replicate (s - length rest) 0 ++ later))) (sym long) ∙ take-append_seam rest (replicate (s - length rest) 0 ++ later)
+          grind (arith, whole, (append_assoc rest (replicate (s - length rest) 0) later), long, (take-append_seam rest (replicate (s - length rest) 0 ++ later)))
     ]
-
-zero_plus : (n : ℕ) → n ≡ 0 + n
-zero_plus n = omega arith
 
 less_none : (n m : ℕ) → m ≡ 0 → n ≡ n - m
 less_none n m e = omega (arith, e)
@@ -64,9 +59,7 @@ less_none n m e = omega (arith, e)
 pub slices_joined : (s : ℕ) (bytes : List ℕ) → 0 < s → take (length bytes) (concat (slices s bytes)) ≡ bytes
 slices_joined s bytes positive =
     let enough : length bytes ≤ (slice_count s (length bytes)) * s = (div_ceil_times (length bytes) s positive).0 in
-    ap (λ n. take n (concat (slices s bytes))) (less_none (length bytes) (0 * s) (zero-mul s))
-    ∙ rest_joined s bytes (slice_count s (length bytes)) 0 (subst (λ n. length bytes ≤ n * s) (zero_plus (slice_count s (length bytes))) enough)
-    ∙ ap (λ n. drop n bytes) (zero-mul s)
+    grind (arith, (less_none (length bytes) (0 * s) (zero-mul s)), (rest_joined s bytes (slice_count s (length bytes)) 0 (subst (λ n. length bytes ≤ n * s) (omega arith) enough)), (zero-mul s))
 
 -- files of one length with the same slices are equal
 pub same_slices : (s : ℕ) (a b : List ℕ) → 0 < s → length a ≡ length b → slices s a ≡ slices s b → a ≡ b
@@ -120,8 +113,8 @@ sizes_of_files s [] = tt
 sizes_of_files s (file ∷ files) = all-append (λ bytes. length bytes ≡ s) (slices s file.1) (all_slices s files) (all-each (λ bytes. length bytes ≡ s) (slice_at s file.1) (length-slice_at s file.1) (range_with_len 0 (slice_count s (length file.1)))) (sizes_of_files s files)
 
 bytes_of_files : (s : ℕ) (files : List File) → AllByRecursion (λ file. AreBytes file.1) files → AllByRecursion AreBytes (all_slices s files)
-bytes_of_files s [] h = tt
-bytes_of_files s (file ∷ files) h = all-append AreBytes (slices s file.1) (all_slices s files) (all-each AreBytes (slice_at s file.1) (λ j. bytes-slice_at s file.1 j h.0) (range_with_len 0 (slice_count s (length file.1)))) (bytes_of_files s files h.1)
+bytes_of_files s files h =
+    all-flat_map _ AreBytes (λ file. slices s file.1) (λ file bytes. all-each AreBytes (slice_at s file.1) (λ j. bytes-slice_at s file.1 j bytes) (range_with_len 0 _)) files h
 
 swapped : (s : ℕ) (xs : List (List ℕ)) (rs : List (ℕ × List ℕ)) → AllByRecursion (λ r. r.1 ≡ recovery s xs r.0) rs → AllByRecursion (λ r. recovery s xs r.0 ≡ r.1) rs
 swapped s xs rs h = all_weaker (λ r. r.1 ≡ recovery s xs r.0) (λ r. recovery s xs r.0 ≡ r.1) (λ r e. sym e) rs h

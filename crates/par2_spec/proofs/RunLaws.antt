@@ -11,8 +11,7 @@ use Rattle.par2_spec.proofs.PolynomialLaws.{Interpolates, value-lt, some_polynom
 
 row_same : (g h : ℕ → ℕ) → ((k : ℕ) → g k ≡ h k) → (ks v : List ℕ) → dot (map g ks) v ≡ dot (map h ks) v
 unfolding dot
-row_same g h same (k ∷ ks) (x ∷ v) = ap₂ bit_xor (ap (λ c. mul c x) (same k)) (row_same g h same ks v)
-row_same g h same ks v = refl
+row_same g h same ks v = grind arith
 
 row_none : (g : ℕ → ℕ) → ((k : ℕ) → g k ≡ 0) → (ks v : List ℕ) → dot (map g ks) v ≡ 0
 unfolding dot
@@ -21,16 +20,12 @@ row_none g none ks v = refl
 
 row_xor : (g h : ℕ → ℕ) (ks v : List ℕ) → dot (map (λ k. bit_xor (g k) (h k)) ks) v ≡ bit_xor (dot (map g ks) v) (dot (map h ks) v)
 unfolding dot
-row_xor g h (k ∷ ks) (x ∷ v) =
-    ap₂ bit_xor ((product_linear_left x).on_xor (g k) (h k)) (row_xor g h ks v)
-    ∙ xor_middle (mul (g k) x) (mul (h k) x) (dot (map g ks) v) (dot (map h ks) v)
+row_xor g h (k ∷ ks) (x ∷ v) = grind (arith, ((product_linear_left x).on_xor (g k) (h k)), (row_xor g h ks v), (xor_middle (mul (g k) x) (mul (h k) x) (dot (map g ks) v) (dot (map h ks) v)))
 row_xor g h ks v = refl
 
 row_times : (a : ℕ) (g : ℕ → ℕ) → a < 2 ^ 16 → ((k : ℕ) → g k < 2 ^ 16) → (ks v : List ℕ) → AreElements v → dot (map (λ k. mul a (g k)) ks) v ≡ mul a (dot (map g ks) v)
 unfolding dot
-row_times a g small fits (k ∷ ks) (x ∷ v) h =
-    ap₂ bit_xor (product_assoc a (g k) x small (fits k) h.0) (row_times a g small fits ks v h.1)
-    ∙ sym ((product_linear_right a).on_xor (mul (g k) x) (dot (map g ks) v))
+row_times a g small fits (k ∷ ks) (x ∷ v) h = grind (arith, (product_assoc a (g k) x small (fits k) h.0), (row_times a g small fits ks v h.1), ((product_linear_right a).on_xor (mul (g k) x) (dot (map g ks) v)))
 row_times a g small fits ks v h = sym (product-zero a)
 
 -- ---- exponents that together kill a vector
@@ -58,12 +53,11 @@ killed_by_polynomial : (ks v : List ℕ) → AreElements v → (p : List ℕ) �
 unfolding weighted value
 killed_by_polynomial ks v is [] h u kills = row_none (weighted u []) (λ k. product-zero (coefficient u k)) ks v
 killed_by_polynomial ks v is (a ∷ p) h u kills =
-    let at_first : u + 0 ≡ u = omega arith in
     let later : (i : ℕ) → i < length p → Kills ks (suc u + i) v = λ i low.
     (let e : u + suc i ≡ suc u + i = omega arith in subst (λ n. Kills ks n v) e (kills (suc i) (omega (arith, low)))) in
     row_same (weighted u (a ∷ p)) (λ k. bit_xor (mul a (coefficient u k)) (weighted (suc u) p k)) (one_more u a p h.0 h.1) ks v
     ∙ row_xor (λ k. mul a (coefficient u k)) (weighted (suc u) p) ks v
-    ∙ ap₂ bit_xor (row_times a (coefficient u) h.0 (coefficient-lt u) ks v is ∙ ap (mul a) (subst (λ n. Kills ks n v) at_first (kills 0 (omega arith))) ∙ product-zero a)
+    ∙ ap₂ bit_xor (row_times a (coefficient u) h.0 (coefficient-lt u) ks v is ∙ ap (mul a) (subst (λ n. Kills ks n v) (omega arith) (kills 0 (omega arith))) ∙ product-zero a)
     (killed_by_polynomial ks v is p h.1 (suc u) later)
 
 -- ---- a polynomial that is 1 at one of the points and 0 at the others (Lagrange basis)
@@ -73,8 +67,7 @@ is_one_at c z = cond (eqb z c) 1 0
 
 all_ones : (c : ℕ) (points : List ℕ) → AreElements (map (is_one_at c) points)
 unfolding is_one_at
-all_ones c [] = tt
-all_ones c (z ∷ points) = (by_test (eqb z c) (λ e. rw e (omega arith)) (λ e. rw e (omega arith)), all_ones c points)
+all_ones c points = all-each _ (is_one_at c) (λ z. by_test (eqb z c) (λ e. rw e (omega arith)) (λ e. rw e (omega arith))) points
 
 unit : (points : List ℕ) → ArePoints points → (c : ℕ) → (p : List ℕ) × Interpolates points (map (is_one_at c) points) p
 unit points are c = some_polynomial points (map (is_one_at c) points) are (length-map points (is_one_at c), all_ones c points)
@@ -90,18 +83,15 @@ coefficient-nonzero : (e k : ℕ) → k < 32768 → coefficient e k ≢ 0
 coefficient-nonzero e k h = unfold coefficient in power_nonzero (constant k) e (let other = constant-nonzero k h in omega (arith, other)) (constant-lt k)
 
 constants_differ : (ks : List ℕ) → AreSlices ks → (i j : ℕ) → i < j → j < length ks → constant (get_or ks i 0) ≢ constant (get_or ks j 0)
-constants_differ ks are i j h low =
-    constant-injective (get_or ks i 0) (get_or ks j 0) (AllPairs-from_increasing ks are.rise i j 0 h low) (all_get (λ k. k < 32768) ks j 0 low are.below)
+constants_differ ks are i j h low = grind (arith, constant-injective, AllPairs-from_increasing, all_get)
 
 points_are : (ks : List ℕ) → AreSlices ks → ArePoints (map constant ks)
 points_are ks are = record {
   elements = all-each (λ c. c < 2 ^ 16) constant constant-lt ks;
   distinct = IsDistinct-from_AllPairs Decides-eqb (map constant ks) (λ i j d low within.
-      let long = length-map ks constant in
-      let second : j < length ks = omega (arith, long, within) in
-      let first : i < length ks = omega (arith, low, second) in
+      let second : j < length ks = omega (arith, length-map ks constant, within) in
       λ same. constants_differ ks are i j low second
-      (sym (get_or-map constant ks i 0 d first) ∙ same ∙ get_or-map constant ks j 0 d second));
+      (sym (get_or-map constant ks i 0 d (omega (arith, low, second))) ∙ same ∙ get_or-map constant ks j 0 d second));
 }
 
 -- the constants of the slices at two positions
@@ -116,7 +106,6 @@ zero_at ks v f q are is kills hq = unfold weighted is_one_at in
     let k = get_or ks q 0 in
     let c = constant k in
     let p = unit (map constant ks) (points_are ks are) c in
-    let long : length p.0 ≡ length ks = p.1.vector.0 ∙ length-map ks constant in
     let n = length ks in
     let row = map (weighted f p.0) ks in
     let values_at : (i : ℕ) → i < n → value p.0 (constant (get_or ks i 0)) ≡ is_one_at c (constant (get_or ks i 0)) = λ i low.
@@ -131,18 +120,12 @@ zero_at ks v f q are is kills hq = unfold weighted is_one_at in
     ∙ ap (mul (coefficient f (get_or ks i 0))) (values_at i low ∙ ap (λ b. cond b 1 0) (ne_eqb _ c (apart ks are i q low hq other)))
     ∙ product-zero (coefficient f (get_or ks i 0)))
     ∙ zero-product (get_or v i 0) in
-    let itself : get_or row q 0 ≡ coefficient f k =
-    get_or-map (weighted f p.0) ks q 0 0 hq
-    ∙ ap (mul (coefficient f k)) (values_at q hq ∙ ap (λ b. cond b 1 0) (eq-eqb c c refl))
-    ∙ product-one (coefficient f k) (coefficient-lt f k) in
     let none : mul (coefficient f k) (get_or v q 0) ≡ 0 =
-    ap (λ x. mul x (get_or v q 0)) (sym itself)
+    ap (λ x. mul x (get_or v q 0)) (sym (grind (arith, (get_or-map (weighted f p.0) ks q 0 0 hq), (values_at q hq), (eq-eqb c c refl), (product-one (coefficient f k) (coefficient-lt f k)))))
     ∙ sym (field_sum_one n q (product_at row v) hq others)
     ∙ sym (dot_sum n row v (let e = length-map ks (weighted f p.0) in omega (arith, e)))
-    ∙ killed_by_polynomial ks v is.1 p.0 p.1.vector.1 f (λ i low. kills i (omega (arith, low, long))) in
-    let other = coefficient-nonzero f k (all_get (λ j. j < 32768) ks q 0 hq are.below) in
-    no_zero_divisor (coefficient f k) (get_or v q 0) (omega (arith, other)) (coefficient-lt f k)
-    (all_get (λ x. x < 2 ^ 16) v q 0 (let e = is.0 in omega (arith, e, hq)) is.1) none
+    ∙ killed_by_polynomial ks v is.1 p.0 p.1.vector.1 f (λ i low. kills i (omega (arith, low, (p.1.vector.0 ∙ length-map ks constant)))) in
+    grind (arith, no_zero_divisor, coefficient-nonzero, all_get, coefficient-lt)
 
 pub run_determines : (ks exponents : List ℕ) (f : ℕ) → AreSlices ks → HasRun f (length ks) exponents → IsRepairable ks exponents
 run_determines ks exponents f are run v is killed =
@@ -157,8 +140,7 @@ run_rank ks exponents f are rise run = (full-iff ks exponents rise).1 (run_deter
 range_has : (f n e : ℕ) → f ≤ e → e < f + n → Contains (range_with_len f n) e
 range_has f n e low high =
     let i : e - f < n = omega (arith, low, high) in
-    let e_is : f + (e - f) ≡ e = omega (arith, low) in
-    subst (Contains (range_with_len f n)) (get_or-range_with_len f n (e - f) 0 i ∙ e_is)
+    subst (Contains (range_with_len f n)) (get_or-range_with_len f n (e - f) 0 i ∙ (omega (arith, low)))
     (Contains-get_or (range_with_len f n) (e - f) 0 (let l = length-range_with_len f n in omega (arith, l, i)))
 
 filter-le : (p : ℕ → Bool) (xs : List ℕ) → length (filter p xs) ≤ length xs

@@ -1,6 +1,6 @@
 -- The matches of a set.
 use Rattle.par2_spec.proofs.TestLaws.{by_either}
-use Rattle.par2_spec.proofs.Common.{◌≡◌, ℕ, List, [], ◌∷◌, map, refl, sym, ap, ◌∙◌, subst, cond, true, false, Bool, not, ◌||◌, arith, filter, filter_map, find, zip, Option, Some, None, option_to_list, is_some, cons_option, bytes_eq, and_parts, or_cases, or_left, or_right, false_from_ne_true, false≢true, same_Some, is_among, Folder, bytes_of, ParSet, Target, is_intact, matched, incomplete, matches}
+use Rattle.par2_spec.proofs.Common.{◌≡◌, ℕ, List, [], ◌∷◌, map, refl, sym, ap, ◌∙◌, subst, true, false, Bool, not, ◌||◌, arith, filter, filter_map, find, zip, Option, Some, None, option_to_list, is_some, cons_option, bytes_eq, and_parts, or_cases, or_left, or_right, false_from_ne_true, false≢true, same_Some, is_among, Folder, bytes_of, ParSet, Target, is_intact, matched, incomplete, matches, map-map}
 use Rattle.par2_spec.proofs.NamesLaws.{same_name, itself, clash, AreDistinct, among-filter}
 
 -- the targets with their matches, and the matches alone
@@ -13,10 +13,13 @@ taken_by folder s free ts = filter_map (λ m. m.1) (pairs_with folder s free ts)
 abbrev without_found : Option (List ℕ) → List (List ℕ) → List (List ℕ)
 without_found found free = filter (λ name. not (is_among (option_to_list found) name)) free
 
+targets_of_pairs : (folder : Folder) (s : ℕ) (free : List (List ℕ)) (ts : List Target) → map (λ m. m.0) (pairs_with folder s free ts) ≡ ts
+targets_of_pairs folder s free [] = refl
+targets_of_pairs folder s free (t ∷ ts) =
+    ap (λ us. t ∷ us) (targets_of_pairs folder s (without_found (find (λ name. is_intact s t (bytes_of folder name)) free) free) ts)
+
 pub names_of_pairs : (folder : Folder) (s : ℕ) (free : List (List ℕ)) (ts : List Target) → map (λ m. m.0.name) (pairs_with folder s free ts) ≡ map (λ t. t.name) ts
-names_of_pairs folder s free [] = refl
-names_of_pairs folder s free (t ∷ ts) =
-    ap (λ ns. t.name ∷ ns) (names_of_pairs folder s (without_found (find (λ name. is_intact s t (bytes_of folder name)) free) free) ts)
+names_of_pairs folder s free ts = sym (map-map (λ t. t.name) (λ m. m.0) (pairs_with folder s free ts)) ∙ ap (map (λ t. t.name)) (targets_of_pairs folder s free ts)
 
 -- a name that is found is one of the names, and passes
 pub found_passes : (p : List ℕ → Bool) (names : List (List ℕ)) (q : List ℕ) → find p names ≡ Some q → (is_among names q ≡ true) × (p q ≡ true)
@@ -52,11 +55,6 @@ taken_once folder s free (t ∷ ts) =
     step (Some x) rest k d = (false_from_ne_true _ (λ i. no_other x (k x i)), d)
 
 -- ---- the rule of matches
-
-targets_of_pairs : (folder : Folder) (s : ℕ) (free : List (List ℕ)) (ts : List Target) → map (λ m. m.0) (pairs_with folder s free ts) ≡ ts
-targets_of_pairs folder s free [] = refl
-targets_of_pairs folder s free (t ∷ ts) =
-    ap (λ us. t ∷ us) (targets_of_pairs folder s (without_found (find (λ name. is_intact s t (bytes_of folder name)) free) free) ts)
 
 -- each incomplete target is there, in order
 pub matches_of_incomplete : (folder : Folder) (set : ParSet) (searched : List (List ℕ)) → map (λ m. m.0) (matches folder set searched) ≡ incomplete folder set

@@ -84,8 +84,7 @@ one_undone : (n : ℕ) (h : History) (folder : Folder) (older : List Folder) (fs
 unfolding history_after
 one_undone n h folder older [] i k later = absurd (none_dropped n folder older k)
 one_undone n h folder older (f ∷ fs) i k later =
-    let next : History = record { older = fs; now = f; newer = h.now ∷ h.newer } in
-    let r = later next k in
+    let r = later (record { older = fs; now = f; newer = h.now ∷ h.newer }) k in
     (r.0, Accepted (ap (λ o. after_undo h.now o h.newer) i) r.1, r.2)
 
 -- n undos go back n folders
@@ -120,14 +119,10 @@ pub next_taken : (folder : FolderState) (entries : List (List Change)) (cs : Lis
 next_taken folder entries cs rest w e = unfold walks in and_parts (takes_all folder cs) (walks (state_after_all folder cs) rest) (sym (ap (walks folder) e) ∙ w)
 
 pub undone_can_walk : (s : KeptSession) (cs : List Change) (rest : List (List Change)) → CanWalk s → s.undos ≡ cs ∷ rest → CanWalk (kept_undone s cs)
-undone_can_walk s cs rest c e = unfold kept_undone in
-    let r = next_taken s.folder s.undos cs rest c.back e in
-    record { back = ap (λ es. walks (state_after_all s.folder cs) (others es)) e ∙ r.1; forth = walks_back s.folder cs s.redos r.0 c.forth }
+undone_can_walk s cs rest c e = unfold kept_undone in grind (arith, (next_taken s.folder s.undos cs rest c.back e), walks_back)
 
 pub redone_can_walk : (s : KeptSession) (cs : List Change) (rest : List (List Change)) → CanWalk s → s.redos ≡ cs ∷ rest → CanWalk (kept_redone s cs)
-redone_can_walk s cs rest c e = unfold kept_redone in
-    let r = next_taken s.folder s.redos cs rest c.forth e in
-    record { back = walks_back s.folder cs s.undos r.0 c.back; forth = ap (λ es. walks (state_after_all s.folder cs) (others es)) e ∙ r.1 }
+redone_can_walk s cs rest c e = unfold kept_redone in grind (arith, (next_taken s.folder s.redos cs rest c.forth e), walks_back)
 
 -- ---- capacity
 
@@ -170,10 +165,7 @@ walked_is_valid s c = and_from _ _ (walked_leads s.folder s.undos c.back) (walke
 places_left : (folder : FolderState) (cs : List Change) → folder.vacant ≤ (state_after_all folder cs).vacant + places_taken cs
 unfolding state_after_all
 places_left folder [] = omega arith
-places_left folder (Write n b ∷ cs) = let later : folder.vacant - 1 ≤ (state_after_all (state_after folder (Write n b)) cs).vacant + places_taken cs = places_left (state_after folder (Write n b)) cs in omega (arith, later)
-places_left folder (Replace n b ∷ cs) = places_left (state_after folder (Replace n b)) cs
-places_left folder (Rename a b ∷ cs) = places_left (state_after folder (Rename a b)) cs
-places_left folder (Remove n ∷ cs) = let later : folder.vacant + 1 ≤ (state_after_all (state_after folder (Remove n)) cs).vacant + places_taken cs = places_left (state_after folder (Remove n)) cs in omega (arith, later)
+places_left folder (c ∷ cs) = grind (arith, (places_left (state_after folder c) cs))
 
 -- with a place for each file that the entries write, entries that lead can be walked
 pub leading_walks : (folder : FolderState) (entries : List (List Change)) → leads folder.files entries ≡ true → sum_by places_taken entries ≤ folder.vacant → walks folder entries ≡ true
@@ -182,6 +174,5 @@ leading_walks folder [] h room = refl
 leading_walks folder (entry ∷ entries) h room =
     let r = and_parts (are_applicable folder.files entry) (leads (effects folder.files entry) entries) h in
     let split : sum_by places_taken (entry ∷ entries) ≡ places_taken entry + sum_by places_taken entries = sum_by-cons places_taken entry entries in
-    let left : folder.vacant ≤ (state_after_all folder entry).vacant + places_taken entry = places_left folder entry in
     and_from _ _ (takes_applicable folder entry r.0 (omega (arith, room, split)))
-    (leading_walks (state_after_all folder entry) entries (ap (λ f. leads f entries) (state_files folder entry) ∙ r.1) (omega (arith, room, split, left)))
+    (leading_walks (state_after_all folder entry) entries (ap (λ f. leads f entries) (state_files folder entry) ∙ r.1) (omega (arith, room, split, places_left folder entry)))

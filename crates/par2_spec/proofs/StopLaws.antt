@@ -1,5 +1,5 @@
 -- A folder that a stopped command left opens as the session from before the command.
-use Rattle.par2_spec.proofs.Common.{◌≡◌, ℕ, zero, suc, ◌+◌, ◌-◌, ◌<◌, ◌≤◌, List, [], ◌∷◌, ◌++◌, length, map, take, drop, get_or, refl, sym, ap, ◌∙◌, subst, cond, true, false, Bool, ◌&&◌, inl, arith, length-append, length-drop, append-nil, IfSome, reverse, position, Option, Some, None, Result, Ok, Err, unwrap_or, is_some, if◌then◌else◌, AllByRecursion, position_from, bytes_eq, drop-append_seam, take-append_seam, reverse-reverse, reverse-append, length-reverse, get_or-reverse, get_or-map, take-append-drop, length-map, length-take-le, take-map, take-take, get_or-take, drop-drop, reverse_onto, common_steps, and_parts, and_from, false≢true, position_from-zero, Folder, fingerprint, Change, effect, inverse, is_applicable, effects, are_applicable, way_back, folders_after, Session, session_of, is_valid, Opened, Settled, Halfway, opened_if_found, opened_by_part, FingerprintsDiffer, session_of_opened, kept_in, settled_journal, halfway_journal, leads, leads_through, taken_back, opened, OpensAs, Opens, HalfwayBytesOpenAsBefore, HalfwayBytesStillOpen, IsTrue}
+use Rattle.par2_spec.proofs.Common.{◌≡◌, ℕ, zero, suc, ◌+◌, ◌-◌, ◌<◌, ◌≤◌, List, [], ◌∷◌, ◌++◌, length, map, take, drop, get_or, refl, sym, ap, ◌∙◌, subst, true, false, Bool, ◌&&◌, inl, arith, length-append, length-drop, append-nil, IfSome, reverse, position, Option, Some, None, Result, Ok, Err, unwrap_or, is_some, if◌then◌else◌, position_from, bytes_eq, drop-append_seam, take-append_seam, reverse-reverse, reverse-append, length-reverse, get_or-reverse, get_or-map, take-append-drop, length-map, length-take-le, take-map, take-take, get_or-take, drop-drop, reverse_onto, common_steps, and_parts, and_from, false≢true, position_from-zero, Folder, fingerprint, Change, effect, inverse, is_applicable, effects, are_applicable, way_back, folders_after, Session, session_of, is_valid, Opened, Settled, Halfway, opened_if_found, opened_by_part, FingerprintsDiffer, session_of_opened, kept_in, settled_journal, halfway_journal, leads, leads_through, taken_back, opened, OpensAs, Opens, HalfwayBytesOpenAsBefore, HalfwayBytesStillOpen, IsTrue}
 use Rattle.par2_spec.specs.declared.Version.{Version}
 use Rattle.par2_spec.specs.Journals.{Journal, HalfwayPart, IsHalfwayPart, Spells, IsJournal}
 use Rattle.par2_spec.specs.declared.JournalFault.{JournalFault}
@@ -10,18 +10,13 @@ use Rattle.par2_spec.proofs.Basics.{undo_changes, undo_change, undo_is_applicabl
 
 -- the first position of the item at n
 place_from : (q : List ℕ) (i : ℕ) (all : List (List ℕ)) (n : ℕ) → n < length all → get_or all n q ≡ q → (k : ℕ) × (position_from (bytes_eq q) i all ≡ Some (i + k)) × (k ≤ n) × (get_or all k q ≡ q)
-place_from q i (x ∷ all) (suc n) lt here = step (bytes_eq q x) refl (place_from q (i + 1) all n (omega (arith, lt)) here)
-  where
-    step : (b : Bool) → bytes_eq q x ≡ b → (k : ℕ) × (position_from (bytes_eq q) (i + 1) all ≡ Some ((i + 1) + k)) × (k ≤ n) × (get_or all k q ≡ q)
-        → (k : ℕ) × (cond b (Some i) (position_from (bytes_eq q) (i + 1) all) ≡ Some (i + k)) × (k ≤ suc n) × (get_or (x ∷ all) k q ≡ q)
-    step true e r = (0, ap Some (let z : i ≡ i + 0 = omega arith in z), omega arith, sym (same_name q x e))
-    step false e r = (suc r.0, r.1 ∙ ap Some (let z : (i + 1) + r.0 ≡ i + suc r.0 = omega arith in z), (let l : r.0 ≤ n = r.2 in omega (arith, l)), r.3)
+place_from q i (x ∷ all) (suc n) lt here = by_test (bytes_eq q x)
+    (λ e. (0, rw e (ap Some (let z : i ≡ i + 0 = omega arith in z)), omega arith, sym (same_name q x e)))
+    (λ e. let r = place_from q (i + 1) all n (omega (arith, lt)) here in (suc r.0, rw e (r.1 ∙ ap Some (let z : (i + 1) + r.0 ≡ i + suc r.0 = omega arith in z)), (let l : r.0 ≤ n = r.2 in omega (arith, l)), r.3))
 place_from q i all n lt here = grind (arith, itself)
 
 least_place : (q : List ℕ) (all : List (List ℕ)) (n : ℕ) → n < length all → get_or all n q ≡ q → (k : ℕ) × (position (bytes_eq q) all ≡ Some k) × (k ≤ n) × (get_or all k q ≡ q)
-least_place q all n lt here =
-    let r = place_from q 0 all n lt here in
-    (r.0, position_from-zero (bytes_eq q) all ∙ r.1 ∙ ap Some (let e : 0 + r.0 ≡ r.0 = omega arith in e), r.2, r.3)
+least_place q all n lt here = grind (arith, (place_from q 0 all n lt here), position_from-zero)
 
 -- the item at the position that was found
 at_place : (q : List ℕ) (i : ℕ) (all : List (List ℕ)) (k : ℕ) → position_from (bytes_eq q) i all ≡ Some k → (n : ℕ) × (k ≡ i + n) × (n < length all) × (get_or all n q ≡ q)
@@ -47,15 +42,7 @@ passed_at folder cs j d le = grind arith
 
 -- if fingerprints differ, two folders with the same fingerprint are equal
 one_folder : (folder : Folder) (cs : List Change) (a b : ℕ) → FingerprintsDiffer folder cs → a ≤ length cs → b ≤ length cs → fingerprint (effects folder (take a cs)) ≡ fingerprint (effects folder (take b cs)) → effects folder (take a cs) ≡ effects folder (take b cs)
-one_folder folder cs a b apart le_a le_b e =
-    let size : length (passed folder cs) ≡ length cs + 1 = length-passed folder cs in
-    let first = passed_at folder cs a folder le_a in
-    let second = passed_at folder cs b folder le_b in
-    sym first
-    ∙ all_get (λ g. fingerprint (get_or (passed folder cs) a folder) ≡ fingerprint g → get_or (passed folder cs) a folder ≡ g) (passed folder cs) b folder (omega (arith, size, le_b))
-    (all_get (λ f. AllByRecursion (λ g. fingerprint f ≡ fingerprint g → f ≡ g) (passed folder cs)) (passed folder cs) a folder (omega (arith, size, le_a)) apart)
-    (ap fingerprint first ∙ e ∙ sym (ap fingerprint second))
-    ∙ second
+one_folder folder cs a b apart le_a le_b e = grind (arith, (length-passed folder cs), (passed_at folder cs a folder le_a), (passed_at folder cs b folder le_b), all_get)
 
 -- ---- the way back of some of the changes
 
@@ -69,9 +56,7 @@ last_of_way_back : (folder : Folder) (cs : List Change) (k : ℕ) → k ≤ leng
 last_of_way_back folder cs k le =
     let whole = ap (way_back folder) (sym (take-append-drop k cs)) ∙ way_back-append folder (take k cs) (drop k cs) in
     let rest = way_back (effects folder (take k cs)) (drop k cs) in
-    let size : length (way_back folder cs) ≡ length cs = length-way_back folder cs in
-    let behind : length rest ≡ length cs - k = length-way_back (effects folder (take k cs)) (drop k cs) ∙ length-drop k cs in
-    let cut : length (way_back folder cs) - k ≡ length rest = omega (arith, size, behind, le) in
+    let cut : length (way_back folder cs) - k ≡ length rest = omega (arith, length-way_back folder cs, (length-way_back (effects folder (take k cs)) (drop k cs) ∙ length-drop k cs), le) in
     ap (λ n. drop n (way_back folder cs)) cut ∙ ap (drop (length rest)) whole ∙ drop-append_seam rest (way_back folder (take k cs))
 
 -- the folders before each change
@@ -105,13 +90,12 @@ way_back_through folder (c ∷ cs) h =
     let r = and_parts (is_applicable folder c) (are_applicable (effect folder c) cs) h in
     let next = effect folder c in
     let prints = map fingerprint (befores next cs) in
-    let home = undo_change folder c r.0 in
     ap (leads_through (effects next cs) (way_back next cs ++ inverse folder c ∷ [])) (reverse_onto prints (fingerprint folder) [])
     ∙ through-append (effects next cs) (way_back next cs) (inverse folder c ∷ []) (reverse prints) (fingerprint folder ∷ [])
     (length-reverse prints ∙ length-map (befores next cs) fingerprint ∙ length-befores next cs ∙ sym (length-way_back next cs))
     (way_back_through next cs r.1)
     (ap (λ f. leads_through f (inverse folder c ∷ []) (fingerprint folder ∷ [])) (undo_changes next cs r.1)
-    ∙ and_from _ _ (and_from _ _ (undo_is_applicable folder c r.0) (ap (λ f. bytes_eq (fingerprint f) (fingerprint folder)) home ∙ itself (fingerprint folder))) refl)
+    ∙ and_from _ _ (and_from _ _ (undo_is_applicable folder c r.0) (ap (λ f. bytes_eq (fingerprint f) (fingerprint folder)) (undo_change folder c r.0) ∙ itself (fingerprint folder))) refl)
 
 -- ---- the session of a journal
 
@@ -153,19 +137,13 @@ applicable-take folder (c ∷ cs) (suc k) h =
 taken_from : (v : Version) (s : Session) (cs : List Change) (k : ℕ) → is_valid s ≡ true → are_applicable s.folder cs ≡ true → k ≤ length cs
     → taken_back (effects s.folder (take k cs)) (halfway_journal v s cs) (part s.folder cs) k ≡ Ok (Halfway (kept_in v s) (way_back s.folder (take k cs)))
 taken_from v s cs k valid applies le = unfold taken_back halfway_journal in
-    let journal = halfway_journal v s cs in
     let some = take k cs in
     let g = effects s.folder some in
     let back = way_back s.folder some in
-    let prints = map fingerprint (folders_after s.folder cs) in
     let ok = applicable-take s.folder cs k applies in
-    let walked : leads_through g back (reverse (take k (fingerprint s.folder ∷ prints))) ≡ true =
+    let walked : leads_through g back (reverse (take k (fingerprint s.folder ∷ (map fingerprint (folders_after s.folder cs))))) ≡ true =
     ap (λ ps. leads_through g back (reverse ps)) (take-map fingerprint k (passed s.folder cs) ∙ ap (map fingerprint) (take-passed s.folder cs k le)) ∙ way_back_through s.folder some ok in
-    ap (λ b. decided (leads_through g b (reverse (take k (journal.fingerprint ∷ prints))) && is_valid (session_of (effects g b) journal)) (session_of (effects g b) journal) b) (last_of_way_back s.folder cs k le)
-    ∙ ap (λ p. decided (leads_through g back (reverse (take k (p ∷ prints))) && is_valid (session_of (effects g back) journal)) (session_of (effects g back) journal) back) (print_of v s)
-    ∙ ap (λ b. decided (b && is_valid (session_of (effects g back) journal)) (session_of (effects g back) journal) back) walked
-    ∙ ap (λ t. decided (is_valid t) t back) (ap (λ f. session_of f journal) (undo_changes s.folder some ok) ∙ session_of_settled v s s.folder ∙ kept_folder v s)
-    ∙ ap (λ b. decided b (kept_in v s) back) (kept_is_valid v s valid)
+    grind (arith, (last_of_way_back s.folder cs k le), (print_of v s), walked, (undo_changes s.folder some ok), (session_of_settled v s s.folder), (kept_folder v s), (kept_is_valid v s valid))
 
 -- the halfway journal of a command opens each folder that the command passes through as the session from before it
 pub halfway_opens :
@@ -250,11 +228,7 @@ drop-reverse xs k a le_a le_k =
     let rest = drop (k - a) (take k xs) in
     let size : length (take k xs) ≡ k = length-take-le k xs le_k in
     let long : length (reverse rest) ≡ a = length-reverse rest ∙ length-drop (k - a) (take k xs) ∙ (let e : length (take k xs) - (k - a) ≡ a = omega (arith, size, le_a) in e) in
-    ap (λ ys. drop a (reverse ys)) (sym (take-append-drop (k - a) (take k xs)))
-    ∙ ap (drop a) (reverse-append front rest)
-    ∙ ap (λ n. drop n (reverse rest ++ reverse front)) (sym long)
-    ∙ drop-append_seam (reverse rest) (reverse front)
-    ∙ ap reverse (take-take (k - a) k xs (omega arith))
+    grind (arith, (take-append-drop (k - a) (take k xs)), (reverse-append front rest), long, (drop-append_seam (reverse rest) (reverse front)), (take-take (k - a) k xs (omega arith)))
 
 -- the fingerprints along the way back are those of the journal, the last one being that of the folder before
 print_along : (folder : Folder) (prints : List (List ℕ)) (back : List Change) (k a : ℕ) (d : List ℕ) → length back ≡ k → k < length prints → get_or prints k d ≡ fingerprint folder → leads_through folder back (reverse (take k prints)) ≡ true
@@ -264,9 +238,7 @@ print_along folder prints back k zero d size lt here h le = ap (λ n. get_or pri
 print_along folder prints back k (suc m) d size lt here h le =
     let long : length (take k prints) ≡ k = length-take-le k prints (omega (arith, lt)) in
     let stepped : get_or (reverse (take k prints)) m d ≡ get_or (take k prints) (length (take k prints) - 1 - m) d = get_or-reverse (take k prints) m d (omega (arith, long, le)) in
-    let place : length (take k prints) - 1 - m ≡ k - suc m = omega (arith, long) in
-    sym (get_or-take k prints (k - suc m) d (omega (arith, le))) ∙ ap (λ n. get_or (take k prints) n d) (sym place) ∙ sym stepped
-    ∙ through_at folder back (reverse (take k prints)) m d h (omega (arith, size, le))
+    grind (arith, (get_or-take k prints (k - suc m) d (omega (arith, le))), long, stepped, (through_at folder back (reverse (take k prints)) m d h (omega (arith, size, le))))
 
 -- a folder on the way back opens with the rest of the way back
 rest_taken : (folder : Folder) (journal : Journal) (h : HalfwayPart) (s : Session) (back : List Change) (k a : ℕ) → k ≤ length h.back → k < length (journal.fingerprint ∷ h.fingerprints) → a ≤ k
@@ -278,13 +250,9 @@ rest_taken folder journal h s back k a le_k lt le_a last through session valid =
     let g = effects folder (take a back) in
     let rest = drop a back in
     let cut : length h.back - k + a ≡ length h.back - (k - a) = omega (arith, le_k, le_a) in
-    let same_rest : drop (length h.back - (k - a)) h.back ≡ rest = ap (λ n. drop n h.back) (sym cut) ∙ sym (drop-drop a (length h.back - k) h.back) ∙ ap (drop a) (sym last) in
     let walked : leads_through g rest (reverse (take (k - a) prints)) ≡ true = ap (leads_through g rest) (sym (drop-reverse prints k a le_a (omega (arith, lt)))) ∙ through_drop folder back (reverse (take k prints)) a through in
     let home : effects g rest ≡ effects folder back = sym (effects-append folder (take a back) rest) ∙ ap (effects folder) (take-append-drop a back) in
-    ap (λ b. decided (leads_through g b (reverse (take (k - a) prints)) && is_valid (session_of (effects g b) journal)) (session_of (effects g b) journal) b) same_rest
-    ∙ ap (λ b. decided (b && is_valid (session_of (effects g rest) journal)) (session_of (effects g rest) journal) rest) walked
-    ∙ ap (λ t. decided (is_valid t) t rest) (ap (λ f. session_of f journal) home ∙ sym session)
-    ∙ ap (λ b. decided b s rest) valid
+    grind (arith, (ap (λ n. drop n h.back) (sym cut) ∙ sym (drop-drop a (length h.back - k) h.back) ∙ ap (drop a) (sym last)), walked, home, session, valid)
 
 within_all : (xs : List (List ℕ)) (k : ℕ) (d e : List ℕ) → k < length xs → get_or xs k d ≡ get_or xs k e
 within_all (x ∷ xs) (suc k) d e lt = within_all xs k d e (omega (arith, lt))
@@ -302,16 +270,13 @@ still_taken journal folder h s back k i each lt here last through session valid 
     let le_k : k ≤ length h.back = omega (arith, lt, each) in
     let size : length back ≡ k = ap length last ∙ length-drop (length h.back - k) h.back ∙ (let z : length h.back - (length h.back - k) ≡ k = omega (arith, le_k) in z) in
     let start : get_or prints k q ≡ fingerprint folder = within_all prints k q (fingerprint folder) lt ∙ here in
-    let le_i : i ≤ k = omega (arith, le, size) in
-    let place = least_place q prints (k - i) (omega (arith, lt)) (print_along folder prints back k i q size lt start through le_i) in
-    let low : place.0 ≤ k - i = place.2 in
+    let place = least_place q prints (k - i) (omega (arith, lt)) (print_along folder prints back k i q size lt start through (omega (arith, le, size))) in
     let a = k - place.0 in
-    let step : k - a ≡ place.0 = omega (arith, low) in
+    let step : k - a ≡ place.0 = omega (arith, place.2) in
     let alike : fingerprint (effects folder (take a back)) ≡ q = sym (print_along folder prints back k a q size lt start through (omega arith)) ∙ ap (λ n. get_or prints n q) step ∙ place.3 in
     let same : effects folder (take a back) ≡ g = one_folder folder back a i apart (omega (arith, size)) le alike in (
       drop a back,
-      ap (opened_if_found g journal h) place.1 ∙ ap (taken_back g journal h) (sym step) ∙ ap (λ f. taken_back f journal h (k - a)) (sym same)
-          ∙ rest_taken folder journal h s back k a le_k lt (omega arith) last through session valid,
+      grind (arith, place.1, step, same, (rest_taken folder journal h s back k a le_k lt (omega arith) last through session valid)),
     )
 
 -- if a halfway journal opens a folder, it opens each folder that the way back passes through as that session
@@ -334,9 +299,7 @@ still_opens journal folder s back i is e apart le = unfold opened in
 
 -- the changes taken back apply and lead to the session's folder, and the session's entries can be applied
 pub taken_back_leads : (journal : Journal) (folder : Folder) (s : Session) (back : List Change) → opened folder journal ≡ Ok (Halfway s back) → (are_applicable folder back ≡ true) × (effects folder back ≡ s.folder) × (is_valid s ≡ true)
-taken_back_leads journal folder s back e =
-    let t = takes_back folder journal s back e in
-    (through_applies folder back (reverse (take t.place (journal.fingerprint ∷ t.halfway.fingerprints))) t.through, ap (λ u. u.folder) (sym t.session), t.valid)
+taken_back_leads journal folder s back e = grind (arith, (takes_back folder journal s back e), through_applies)
 
 -- ---- in a store
 

@@ -26,8 +26,7 @@ field_sum_xor (suc n) f g = ap (λ s. bit_xor s (bit_xor (f n) (g n))) (field_su
 pub field_sum_scaled : (n k : ℕ) (f : ℕ → ℕ) → field_sum n (λ i. mul k (f i)) ≡ mul k (field_sum n f)
 unfolding field_sum
 field_sum_scaled zero k f = sym (product-zero k)
-field_sum_scaled (suc n) k f =
-    ap (λ s. bit_xor s (mul k (f n))) (field_sum_scaled n k f) ∙ sym ((product_linear_right k).on_xor (field_sum n f) (f n))
+field_sum_scaled (suc n) k f = grind (arith, (field_sum_scaled n k f), ((product_linear_right k).on_xor (field_sum n f) (f n)))
 
 pub field_sum_none : (n : ℕ) (f : ℕ → ℕ) → ((i : ℕ) → i < n → f i ≡ 0) → field_sum n f ≡ 0
 unfolding field_sum
@@ -103,6 +102,4 @@ row_sum_added n k row add new f hk small v is =
 
 -- a unit row: 1 at one position and 0 elsewhere
 pub row_sum_unit : (n p : ℕ) (row : List ℕ) (f : ℕ → ℕ) → p < n → GivesElements f → word p row ≡ 1 → ((i : ℕ) → i < n → i ≢ p → word i row ≡ 0) → row_sum n row f ≡ f p
-row_sum_unit n p row f h v one none =
-    field_sum_one n p (λ i. mul (word i row) (f i)) h (λ i l m. ap (λ x. mul x (f i)) (none i l m) ∙ zero-product (f i))
-    ∙ ap (λ x. mul x (f p)) one ∙ product_comm 1 (f p) (omega arith) (v p) ∙ product-one (f p) (v p)
+row_sum_unit n p row f h v one none = grind (arith, (field_sum_one n p (λ i. mul (word i row) (f i)) h (λ i l m. ap (λ x. mul x (f i)) (none i l m) ∙ zero-product (f i))), one, (product_comm 1 (f p) (omega arith) (v p)), (product-one (f p) (v p)))

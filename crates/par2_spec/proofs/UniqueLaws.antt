@@ -1,6 +1,6 @@
 -- If the lost slices are determined, at most one list agrees.
-use Rattle.par2_spec.proofs.Basics.{by_either, xor_middle, product_linear_right, product-lt, product-zero, power-lt, constant-lt, clash, kept-iff, byte_at, word-lt, same_buffers, xor_same, all-both, contained_first, contained_later}
-use Rattle.par2_spec.proofs.Common.{◌≡◌, ℕ, zero, suc, ◌+◌, ◌/◌, ◌%◌, ◌^◌, ◌<◌, ◌≤◌, List, [], ◌∷◌, length, map, take, drop, get_or, refl, sym, ap, ◌∙◌, subst, cond, true, Bool, arith, flat_map, filter, slice_index, ◌==◌, Option, Some, None, is_none, w16, to_le_bytes, from_le_bytes, xor_self, range_with_len, enumerate_from, list_any, AllByRecursion, AllZip, Contains, ForSome, xor_lt, from_le_bytes-to_le_bytes_2, length-map, or_right, cases_eq, AllZip-long, mul, coefficient, word, coefficients, dot, combination, recovery, kept, IsVector, Kills, IsRepairable, Agrees, kept_slices, IsRebuilt, AreElements, ParSet, lost, survivors, bit_xor}
+use Rattle.par2_spec.proofs.Basics.{by_either, xor_middle, product_linear_right, product-lt, product-zero, power-lt, constant-lt, clash, kept-iff, byte_at, word-lt, same_buffers, xor_same, all-both, all-map, all-each, all_weaker}
+use Rattle.par2_spec.proofs.Common.{◌≡◌, ℕ, zero, suc, ◌+◌, ◌/◌, ◌%◌, ◌^◌, ◌<◌, ◌≤◌, List, [], ◌∷◌, length, map, take, drop, get_or, refl, sym, ap, ◌∙◌, subst, cond, true, Bool, arith, flat_map, filter, ◌==◌, Option, Some, None, is_none, w16, to_le_bytes, from_le_bytes, xor_self, range_with_len, enumerate_from, list_any, AllByRecursion, AllZip, Contains, ForSome, xor_lt, from_le_bytes-to_le_bytes_2, length-map, or_right, cases_eq, AllZip-long, mul, coefficient, word, coefficients, dot, combination, recovery, kept, IsVector, Kills, IsRepairable, Agrees, kept_slices, IsRebuilt, AreElements, ParSet, lost, survivors, bit_xor, recursion_from_All, All-contains_itself}
 use Rattle.std.specs.FinMap as map_of
 
 -- ---- sums of lists
@@ -13,10 +13,7 @@ sums (x ∷ u) (y ∷ v) = bit_xor x y ∷ sums u v
 
 pub dot-sums : (row u v : List ℕ) → length u ≡ length v → dot row (sums u v) ≡ bit_xor (dot row u) (dot row v)
 unfolding dot
-dot-sums (c ∷ row) (x ∷ u) (y ∷ v) e =
-    ap (λ t. bit_xor t (dot row (sums u v))) ((product_linear_right c).on_xor x y)
-    ∙ ap (bit_xor (bit_xor (mul c x) (mul c y))) (dot-sums row u v (omega (arith, e)))
-    ∙ xor_middle (mul c x) (mul c y) (dot row u) (dot row v)
+dot-sums (c ∷ row) (x ∷ u) (y ∷ v) e = grind (arith, ((product_linear_right c).on_xor x y), (dot-sums row u v (omega (arith, e))), (xor_middle (mul c x) (mul c y) (dot row u) (dot row v)))
 dot-sums row u v e = grind arith
 
 pub dot-lt : (row v : List ℕ) → AreElements row → AreElements v → dot row v < 2 ^ 16
@@ -26,8 +23,7 @@ dot-lt row v h k = omega arith
 
 pub coefficients_are : (e : ℕ) (is : List ℕ) → AreElements (coefficients is e)
 unfolding coefficient
-coefficients_are e [] = tt
-coefficients_are e (i ∷ is) = (power-lt _ e (constant-lt i), coefficients_are e is)
+coefficients_are e is = all-each _ (coefficient e) (λ i. power-lt _ e (constant-lt i)) is
 
 -- ---- words
 
@@ -35,8 +31,7 @@ abbrev pub AreBuffers : List (List ℕ) → Type 0
 AreBuffers buffers = AllByRecursion (λ bytes. AllByRecursion (λ b. b < 256) bytes) buffers
 
 pub words_are : (p : ℕ) (buffers : List (List ℕ)) → AreBuffers buffers → AreElements (map (word p) buffers)
-words_are p [] h = tt
-words_are p (bytes ∷ buffers) h = (word-lt bytes p (byte_at bytes h.0), words_are p buffers h.1)
+words_are p buffers h = all-map _ _ (word p) (λ bytes small. word-lt bytes p (byte_at bytes small)) buffers h
 
 -- buffers of an even length with the same words are equal
 pub same_words : (s : ℕ) (a b : List ℕ) → s % 2 ≡ 0 → length a ≡ s → length b ≡ s → AllByRecursion (λ x. x < 256) a → AllByRecursion (λ x. x < 256) b → ((p : ℕ) → p < s / 2 → word p a ≡ word p b) → a ≡ b
@@ -93,8 +88,7 @@ length-at_lost i (Some y ∷ ks) (x ∷ d) z = length-at_lost (i + 1) ks d z.1
 length-at_lost i ks d z = grind arith
 
 elements-at_lost : (ks : List (Option (List ℕ))) (d : List ℕ) → AreElements d → AreElements (at_lost ks d)
-elements-at_lost (None ∷ ks) (x ∷ d) h = (h.0, elements-at_lost ks d h.1)
-elements-at_lost (Some y ∷ ks) (x ∷ d) h = elements-at_lost ks d h.1
+elements-at_lost (k ∷ ks) (x ∷ d) h = grind (arith, (elements-at_lost ks d h.1))
 elements-at_lost ks d h = grind arith
 
 -- the sum over all slices is that over the lost ones
@@ -132,8 +126,7 @@ zero_at_known ks a b p h k = grind arith
 -- ---- a vector that all kept exponents kill is killed by all survivors
 
 pub all_from_contains : (P : ℕ → Type 0) (xs : List ℕ) → ((q : ℕ) → Contains xs q → P q) → AllByRecursion P xs
-all_from_contains P [] h = tt
-all_from_contains P (x ∷ xs) h = (h x (contained_first x xs), all_from_contains P xs (λ q c. h q (contained_later x xs q c)))
+all_from_contains P xs h = all_weaker (Contains xs) P h xs (recursion_from_All (Contains xs) xs (All-contains_itself xs))
 
 killed_by_bound : (is es : List ℕ) (v : List ℕ) → IsVector (length is) v → ((e : ℕ) → Contains (kept is es) e → Kills is e v) → (m e : ℕ) → e < m → Contains es e → Kills is e v
 killed_by_bound is es v vector kills zero e lt c = absurd (omega (arith, lt))
@@ -170,9 +163,7 @@ both_recovered s a b rs h k = all-both (λ r. recovery s a r.0 ≡ r.1) (λ r. r
 all_same : (s : ℕ) (a b : List (List ℕ)) → s % 2 ≡ 0 → length a ≡ length b → AllByRecursion (λ bytes. length bytes ≡ s) a → AllByRecursion (λ bytes. length bytes ≡ s) b → AreBuffers a → AreBuffers b
     → ((p : ℕ) → p < s / 2 → map (word p) a ≡ map (word p) b) → a ≡ b
 all_same s [] [] even e la lb ha hb same = refl
-all_same s (x ∷ a) (y ∷ b) even e la lb ha hb same =
-    ap (λ z. z ∷ a) (same_words s x y even la.0 lb.0 ha.0 hb.0 (λ p lt. ap (λ ws. slice_index ws 0) (same p lt)))
-    ∙ ap (λ zs. y ∷ zs) (all_same s a b even (omega (arith, e)) la.1 lb.1 ha.1 hb.1 (λ p lt. ap (drop 1) (same p lt)))
+all_same s (x ∷ a) (y ∷ b) even e la lb ha hb same = grind (arith, same_words, (all_same s a b even (omega (arith, e)) la.1 lb.1 ha.1 hb.1 (λ p lt. ap (drop 1) (same p lt))))
 all_same s a b even e la lb ha hb same = absurd (omega (arith, e))
 
 pub agreeing_are_one :

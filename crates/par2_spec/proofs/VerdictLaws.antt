@@ -1,10 +1,8 @@
 -- The meaning of the verdict.
-use Rattle.par2_spec.proofs.Common.{◌≡◌, ◌+◌, ℕ, List, [], ◌∷◌, T, length, map, refl, sym, ap, ◌∙◌, subst, Bool, true, false, not, cond, ◌&&◌, Less, arith, ◌↔◌, ◌==◌, nat_lt, Option, Some, Result, Ok, filter, is_some, is_none, if◌then◌else◌, bytes_eq, md5, nat_cmp, is_lt, entries_sorted, is_sorted, below_all, list_all, list_any, enumerate_from, AllByRecursion, eqb-true, eq-eqb, false≢true, not-true, false_from_ne_true, IsStrictlyIncreasing-from_sorted, Fault, NotRepairable, NameTooLong, RepairFailed, then_fault, first_fault, fault_where, Folder, has, bytes_of, ParSet, Target, set_of, all_pairs, found, is_incomplete, incomplete, matches, match_of, lost, survivors, candidates, known, is_repairable, IsRepairable, rank, aside, put_aside, rebuilt_targets, Repair, set_in, refusal, repair_refusal, Report, is_complete, incomplete_state, verdict_of, IsVerdict, IsVerdictIn, RefusedAsReported, state_of, report_of_target, report_of, report_in, IsStrictlySortedBy, Ordering, ◌>>=◌}
-use Rattle.std.specs.FinMap as map_of
+use Rattle.par2_spec.proofs.Common.{◌≡◌, ◌+◌, ℕ, List, [], ◌∷◌, T, length, map, refl, sym, ap, ◌∙◌, subst, Bool, true, false, not, Less, arith, ◌↔◌, ◌==◌, nat_lt, Option, Some, Result, Ok, filter, is_some, is_none, if◌then◌else◌, bytes_eq, md5, nat_cmp, is_lt, entries_sorted, is_sorted, below_all, list_all, list_any, enumerate_from, AllByRecursion, eqb-true, eq-eqb, false≢true, not-true, false_from_ne_true, IsStrictlyIncreasing-from_sorted, Fault, NotRepairable, NameTooLong, RepairFailed, then_fault, first_fault, fault_where, Folder, bytes_of, ParSet, Target, set_of, all_pairs, found, is_incomplete, incomplete, lost, survivors, candidates, known, is_repairable, IsRepairable, rank, aside, put_aside, rebuilt_targets, Repair, set_in, refusal, repair_refusal, Report, is_complete, verdict_of, IsVerdict, IsVerdictIn, RefusedAsReported, state_of, report_of_target, report_of, report_in, IsStrictlySortedBy, Ordering, ◌>>=◌}
 use Rattle.par2_spec.specs.declared.Verdict.{Verdict}
 use Rattle.par2_spec.specs.declared.Verdict.TheVariants.{Complete, Repairable}
 use Rattle.par2_spec.specs.declared.Verdict.TheVariants as verdict
-use Rattle.par2_spec.specs.Reports as reports
 use Rattle.par2_spec.proofs.Basics.{T-parts, repairable-iff, none_kept, all_by_test, same_ok, all-map, all-flat_map}
 use Rattle.par2_spec.proofs.FullRank.{full-iff}
 use Rattle.par2_spec.proofs.RefusedLaws.{first_cause}
@@ -84,9 +82,7 @@ module _ (folder : Folder) (base : List ℕ) (extras : List (List ℕ)) (set : P
   verdict_is = unfold said report_of in ap (λ a. said a is_full) (ap (list_all (λ r. is_complete r.state)) (by_target folder set searched) ∙ complete_by_target folder set searched set.targets)
 
   repairable_if_full : (is_full ≡ true) ↔ IsRepairable missing (survivors set)
-  repairable_if_full =
-      let law = full-iff missing (survivors set) (IsStrictlyIncreasing-from_sorted (survivors set) (sorted_keys (map_of.entries set.recovery) (entries_sorted set.recovery))) in
-      (λ e. law.0 (eqb-true _ _ e), λ h. eq-eqb _ _ (law.1 h))
+  repairable_if_full = grind (arith, full-iff, IsStrictlyIncreasing-from_sorted, sorted_keys, entries_sorted, eqb-true, eq-eqb)
 
   by_words : IsVerdict folder set searched (verdict_of (report_of folder set searched))
   by_words = grind (arith, verdict_is, said-complete, nil-iff, said-repairable, false_from_ne_true, said, repairable_if_full)

@@ -1,5 +1,5 @@
 -- Output that is written in parts.
-use Rattle.par2_spec.proofs.Common.{◌≡◌, ◌∙◌, ◌++◌, map, ◌+◌, ◌-◌, ◌<◌, ℕ, suc, List, [], take, drop, length, ap, sym, subst, append-nil, append_assoc, length-drop, length-append, arith, get_or, take-append_seam, take-append-add, drop-cons, take-append-drop, take-append-le, take_all, take_more, flat_map-append, common_steps, flat_map-map, Option, Result, Ok, Err, flat_map}
+use Rattle.par2_spec.proofs.Common.{◌≡◌, ◌++◌, map, ◌+◌, ◌-◌, ◌<◌, ℕ, suc, List, [], take, drop, length, sym, subst, append-nil, append_assoc, length-drop, length-append, arith, get_or, take-append_seam, take-append-add, drop-cons, take-append-drop, take-append-le, take_all, take_more, flat_map-append, common_steps, flat_map-map, Option, Result, Ok, Err, flat_map}
 use Rattle.std.specs.Io.KnownBytes.{Appends}
 use Rattle.std.proofs.KnownBytes.{Appends-trans}
 use Rattle.par2_spec.specs.Writing.{Writer, TookAll, TookPart, Wrote}
@@ -7,10 +7,7 @@ use Rattle.par2_spec.specs.Writing.{Writer, TookAll, TookPart, Wrote}
 -- nothing more was taken
 pub part : (a b c : Option (List ℕ)) (sent rest bytes : List ℕ) → bytes ≡ sent ++ rest → 0 < length rest → Appends a b sent → Appends b c []
     → (n : ℕ) × (n < length bytes) × Appends a c (take n bytes)
-part a b c sent rest bytes is more p q =
-    let seam : sent ++ [] ≡ take (length sent) bytes = append-nil sent ∙ sym (take-append_seam sent rest) ∙ ap (take (length sent)) (sym is) in
-    let size : length bytes ≡ length sent + length rest = ap length is ∙ length-append sent rest in
-    (length sent, omega (arith, size, more), subst (Appends a c) seam (Appends-trans a b c sent [] p q))
+part a b c sent rest bytes is more p q = grind (arith, (append-nil sent), (take-append_seam sent rest), (length-append sent rest), Appends-trans)
 
 -- n more bytes were taken
 pub step : (a b c : Option (List ℕ)) (sent rest bytes : List ℕ) (n : ℕ) → bytes ≡ sent ++ rest → Appends a b sent → Appends b c (take n rest)
@@ -47,13 +44,9 @@ module _ {P : Type 0} (seen : P → Writer) where
   pub lines_cut : {X : Type 0} (f : X → List ℕ) (a b c : P) (items : List X) (i : ℕ) (item : X) → i < length items
       → TookAll (seen a) (seen b) (flat_map f (take i items)) → TookPart (seen b) (seen c) (f (get_or items i item)) → TookPart (seen a) (seen c) (flat_map f items)
   lines_cut f a b c items i item within before some =
-      let here = f (get_or items i item) in
       let after = flat_map f (drop (suc i) items) in
-      let whole : flat_map f items ≡ flat_map f (take i items) ++ (here ++ after) =
-      ap (flat_map f) (sym (take-append-drop i items)) ∙ flat_map-append f (take i items) (drop i items)
-      ∙ ap (λ xs. flat_map f (take i items) ++ flat_map f xs) (drop-cons items i item within) in
-      subst (TookPart (seen a) (seen c)) (sym whole)
-      (part_behind a b c (flat_map f (take i items)) (here ++ after) before (wrote_less b c here after some))
+      subst (TookPart (seen a) (seen c)) (sym (grind (arith, (take-append-drop i items), (flat_map-append f (take i items) (drop i items)), (drop-cons items i item within))))
+      (part_behind a b c (flat_map f (take i items)) ((f (get_or items i item)) ++ after) before (wrote_less b c (f (get_or items i item)) after some))
 
   -- the same for items seen through `view`, if `shown` is the view of the i-th item
   pub shown_lines_cut : {X Y : Type 0} (f : Y → List ℕ) (view : X → Y) (a b c : P) (items : List X) (i : ℕ) (item : X) (shown : Y)

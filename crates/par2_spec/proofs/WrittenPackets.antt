@@ -1,5 +1,5 @@
 -- Parts of joined bytes, and the tests of a packet at their front.
-use Rattle.par2_spec.proofs.Common.{◌≡◌, ℕ, suc, ◌-◌, ◌+◌, ◌%◌, ◌^◌, ◌≤◌, ◌<◌, Bool, true, false, leb, eqb, ◌&&◌, List, [], ◌∷◌, ◌++◌, length, drop, refl, sym, ap, ◌∙◌, append_assoc, arith, length-append, flat_map, AllByRecursion, w64, to_le_bytes, bytes_eq, le-leb, eq-eqb, lt-leb, leb-true, and_parts, take_at, drop_at, from_le_bytes-to_le_bytes_8, bytes_eq-Decides, md5, length-md5, Kind, bytes_at, magic, type_of, kind_of, Packet, digest_input, claimed_length, accepted, IsPacket, u64_at, packet, begins_with_packet, first_packet, accepted_after}
+use Rattle.par2_spec.proofs.Common.{◌≡◌, ℕ, suc, ◌-◌, ◌+◌, ◌%◌, ◌^◌, ◌≤◌, ◌<◌, Bool, true, leb, eqb, ◌&&◌, List, [], ◌∷◌, ◌++◌, length, drop, refl, sym, ap, ◌∙◌, append_assoc, arith, length-append, flat_map, AllByRecursion, w64, to_le_bytes, bytes_eq, le-leb, eq-eqb, lt-leb, leb-true, and_parts, take_at, drop_at, from_le_bytes-to_le_bytes_8, bytes_eq-Decides, md5, length-md5, bytes_at, magic, type_of, kind_of, Packet, digest_input, claimed_length, accepted, IsPacket, u64_at, packet, begins_with_packet, first_packet, accepted_after}
 use Rattle.par2_spec.proofs.AcceptedLaws.{accepted-found, accepted-none}
 
 pub part_at : (front mid rest : List ℕ) (o n : ℕ) → length front ≡ o → length mid ≡ n → bytes_at o n (front ++ (mid ++ rest)) ≡ mid
@@ -37,9 +37,6 @@ to_48 m l d s k b t = simp append_assoc
 to_64 : (m l d s k b t : List ℕ) → m ++ (l ++ (d ++ (s ++ (k ++ (b ++ t))))) ≡ (m ++ (l ++ (d ++ (s ++ k)))) ++ (b ++ t)
 to_64 m l d s k b t = simp append_assoc
 
-to_end : (m l d s k b t : List ℕ) → m ++ (l ++ (d ++ (s ++ (k ++ (b ++ t))))) ≡ (m ++ (l ++ (d ++ (s ++ (k ++ b))))) ++ t
-to_end m l d s k b t = simp append_assoc
-
 pub len3 : (a b c : List ℕ) → length (a ++ (b ++ c)) ≡ length a + (length b + length c)
 len3 a b c = length-append a (b ++ c) ∙ ap (λ (n : ℕ). length a + n) (length-append b c)
 
@@ -57,14 +54,12 @@ begins bytes m l d s k b t h = unfold begins_with_packet u64_at in
     ap (bytes_at 32 (claimed_length bytes - 32)) (h.is ∙ to_32 m l d s k b t) ∙ part_at (m ++ (l ++ d)) (s ++ (k ++ b)) t 32 (claimed_length bytes - 32) size_mld (omega (arith, size_skb, claim)) in
     let digest : bytes_at 16 16 bytes ≡ d =
     ap (bytes_at 16 16) (h.is ∙ sym (append_assoc m l _)) ∙ part_at (m ++ l) d (s ++ (k ++ (b ++ t))) 16 16 (omega (arith, length-append m l, lens.0, lens.1)) lens.2 in
-    let h1 : leb 64 (length bytes) ≡ true = le-leb 64 (length bytes) (omega (arith, size)) in
-    let h2 : bytes_eq (bytes_at 0 8 bytes) magic ≡ true = (bytes_eq-Decides (bytes_at 0 8 bytes) magic).1 front in
     let h3 : eqb (claimed_length bytes % 4) 0 ≡ true = eq-eqb (claimed_length bytes % 4) 0 (ap (λ (n : ℕ). n % 4) claim ∙ h.even) in
     let h4 : leb 64 (claimed_length bytes) ≡ true = le-leb 64 (claimed_length bytes) (omega (arith, claim)) in
     let h5 : leb (claimed_length bytes) (length bytes) ≡ true = le-leb (claimed_length bytes) (length bytes) (omega (arith, claim, size)) in
     let h6 : bytes_eq (md5 (bytes_at 32 (claimed_length bytes - 32) bytes)) (bytes_at 16 16 bytes) ≡ true =
     (bytes_eq-Decides (md5 (bytes_at 32 (claimed_length bytes - 32) bytes)) (bytes_at 16 16 bytes)).1 (ap md5 rest ∙ sym h.digest ∙ sym digest) in
-    six _ _ _ _ _ _ h1 h2 h3 h4 h5 h6
+    six _ _ _ _ _ _ (le-leb 64 (length bytes) (omega (arith, size))) ((bytes_eq-Decides (bytes_at 0 8 bytes) magic).1 front) h3 h4 h5 h6
 
 first : (bytes m l d s k b t : List ℕ) → IsMade bytes m l d s k b t → first_packet bytes ≡ record { set_id = s; kind = kind_of k; body = b }
 first bytes m l d s k b t h = unfold first_packet u64_at in
@@ -73,19 +68,15 @@ first bytes m l d s k b t h = unfold first_packet u64_at in
     let size32 : length (m ++ (l ++ d)) ≡ 32 = omega (arith, len3 m l d, lens.0, lens.1, lens.2) in
     let size48 : length (m ++ (l ++ (d ++ s))) ≡ 48 = omega (arith, len3 m l (d ++ s), length-append d s, lens.0, lens.1, lens.2, h.set_id) in
     let size64 : length (m ++ (l ++ (d ++ (s ++ k)))) ≡ 64 = omega (arith, len3 m l (d ++ (s ++ k)), len3 d s k, lens.0, lens.1, lens.2, h.set_id, h.kind) in
-    let id : bytes_at 32 16 bytes ≡ s = ap (bytes_at 32 16) (h.is ∙ to_32s m l d s k b t) ∙ part_at (m ++ (l ++ d)) s (k ++ (b ++ t)) 32 16 size32 h.set_id in
     let kind : bytes_at 48 16 bytes ≡ k = ap (bytes_at 48 16) (h.is ∙ to_48 m l d s k b t) ∙ part_at (m ++ (l ++ (d ++ s))) k (b ++ t) 48 16 size48 h.kind in
     let body : bytes_at 64 (claimed_length bytes - 64) bytes ≡ b = ap (bytes_at 64 (claimed_length bytes - 64)) (h.is ∙ to_64 m l d s k b t) ∙ part_at (m ++ (l ++ (d ++ (s ++ k)))) b t 64 (claimed_length bytes - 64) size64 (omega (arith, claim)) in
-    ap (λ (x : List ℕ). let p : Packet = record { set_id = x; kind = kind_of (bytes_at 48 16 bytes); body = bytes_at 64 (claimed_length bytes - 64) bytes } in p) id
-    ∙ ap (λ (x : List ℕ). let p : Packet = record { set_id = s; kind = kind_of x; body = bytes_at 64 (claimed_length bytes - 64) bytes } in p) kind
-    ∙ ap (λ (x : List ℕ). let p : Packet = record { set_id = s; kind = kind_of k; body = x } in p) body
+    grind (arith, (ap (bytes_at 32 16) (h.is ∙ to_32s m l d s k b t) ∙ part_at (m ++ (l ++ d)) s (k ++ (b ++ t)) 32 16 size32 h.set_id), kind, body)
 
 after : (bytes m l d s k b t : List ℕ) → IsMade bytes m l d s k b t → drop (claimed_length bytes) bytes ≡ t
 after bytes m l d s k b t h =
     let lens = module_parts bytes m l d s k b t h in
-    let claim : claimed_length bytes ≡ 64 + length b = claimed_is bytes m l d s k b t h in
     let size : length (m ++ (l ++ (d ++ (s ++ (k ++ b))))) ≡ 64 + length b = omega (arith, len3 m l (d ++ (s ++ (k ++ b))), len3 d s (k ++ b), length-append k b, lens.0, lens.1, lens.2, h.set_id, h.kind) in
-    ap (drop (claimed_length bytes)) (h.is ∙ to_end m l d s k b t) ∙ drop_at (m ++ (l ++ (d ++ (s ++ (k ++ b))))) t (claimed_length bytes) (size ∙ sym claim)
+    ap (drop (claimed_length bytes)) (h.is ∙ (simp append_assoc)) ∙ drop_at (m ++ (l ++ (d ++ (s ++ (k ++ b))))) t (claimed_length bytes) (size ∙ sym (claimed_is bytes m l d s k b t h))
 
 -- if a packet is at the front, the packets are that one and those after it
 pub accepted_first : (bytes : List ℕ) → begins_with_packet bytes ≡ true → 1 ≤ claimed_length bytes → accepted bytes ≡ first_packet bytes ∷ accepted (drop (claimed_length bytes) bytes)
@@ -116,19 +107,13 @@ packet_then p t is = unfold packet in
       even = is.multiple_of_4;
     } in
     let one : 1 ≤ claimed_length bytes = omega (arith, claimed_is bytes magic l d p.set_id k p.body t made) in
-    accepted_first bytes (begins bytes magic l d p.set_id k p.body t made) one
-    ∙ ap (λ (q : Packet). q ∷ accepted (drop (claimed_length bytes) bytes)) (first bytes magic l d p.set_id k p.body t made)
-    ∙ ap (λ (q : Kind). let r : Packet = record { set_id = p.set_id; kind = q; body = p.body } in r ∷ accepted (drop (claimed_length bytes) bytes)) is.kind.1
-    ∙ ap (λ (x : List ℕ). p ∷ accepted x) (after bytes magic l d p.set_id k p.body t made)
-
-short_front : (bytes : List ℕ) → length bytes < 64 → begins_with_packet bytes ≡ false
-short_front bytes lt = unfold begins_with_packet in grind (arith, lt-leb)
+    grind (arith, (accepted_first bytes (begins bytes magic l d p.set_id k p.body t made) one), (first bytes magic l d p.set_id k p.body t made), is.kind.1, (after bytes magic l d p.set_id k p.body t made))
 
 -- too few bytes have no packets
 pub none_short : (bytes : List ℕ) → length bytes < 64 → accepted bytes ≡ []
 unfolding accepted_after
 none_short [] lt = refl
-none_short (b ∷ bytes) lt = accepted-none b bytes (short_front (b ∷ bytes) lt) ∙ none_short bytes (let below : suc (length bytes) < 64 = lt in omega arith)
+none_short (b ∷ bytes) lt = accepted-none b bytes (unfold begins_with_packet in grind (arith, lt-leb)) ∙ none_short bytes (let below : suc (length bytes) < 64 = lt in omega arith)
 
 -- packets one after the other
 pub packets_then : (ps : List Packet) (t : List ℕ) → AllByRecursion IsPacket ps → accepted (flat_map packet ps ++ t) ≡ ps ++ accepted t

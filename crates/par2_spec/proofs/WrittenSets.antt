@@ -2,7 +2,7 @@
 use Rattle.par2_spec.proofs.Common.{◌≡◌, ℕ, suc, ◌-◌, ◌+◌, ◌*◌, ◌/◌, ◌%◌, ◌^◌, ◌<◌, true, leb, eqb, ◌&&◌, List, [], ◌∷◌, ◌++◌, length, take, drop, map, refl, sym, ap, ◌∙◌, append_assoc, arith, zero, Bool, false, length-append, append-nil, flat_map, Option, Some, None, reverse, replicate, w32, w64, to_le_bytes, from_le_bytes, w16, AllByRecursion, range_with_len, list_any, prefix_len, suffix_len, le-leb, eq-eqb, and_from, cond-true, or_parts, or_from, take_at, drop_at, length-replicate, reverse-append, replicate_more, from_le_bytes-to_le_bytes_4, from_le_bytes-to_le_bytes_8, Pair, IsPair, bytes_at, items_at, MainBody, IfscBody, without_end_zeros, DescBody, Packet, packet, accepted, IsCanonical, IsPacket, u64_at, u32_at, read_main, read_ifsc, read_desc, kind_of, FileRecord, main_bytes, ifsc_bytes, pair_bytes, recovery_bytes, desc_bytes, padded_4, IsFileRecord, creator_bytes, main_id, packet_of, recovery_packets, index_packets, list_any-append, prefix_len-append, prefix_len-replicate, length-range_with_len, length-md5, Kind, dot, coefficients, recovery, combination, word, common_steps, ◌==◌}
 use Rattle.par2_spec.specs.declared.Kind.TheVariants.{Main, Ifsc, Recovery, FileDesc, Creator}
 use Rattle.par2_spec.proofs.WrittenPackets.{part_at, len3, packets_then}
-use Rattle.par2_spec.proofs.Basics.{all-each, all-map, all-append}
+use Rattle.par2_spec.proofs.Basics.{all-each, all-map, all-append, all_weaker}
 
 -- ---- numbers at an offset
 
@@ -51,11 +51,7 @@ main_reads s files low few ids = unfold read_main in
     let t1 : leb 12 (length body) ≡ true = le-leb 12 (length body) (omega (arith, size)) in
     let t2 : eqb ((length body - 12) % 16) 0 ≡ true = eq-eqb ((length body - 12) % 16) 0 (omega (arith, size)) in
     let t3 : leb (u32_at 8 body) ((length body - 12) / 16) ≡ true = le-leb (u32_at 8 body) ((length body - 12) / 16) (omega (arith, size, count)) in
-    cond-true (leb 12 (length body) && eqb ((length body - 12) % 16) 0 && leb (u32_at 8 body) ((length body - 12) / 16)) (main_of (u64_at 0 body) (items_at 12 16 (u32_at 8 body) body)) None
-    (and_from (leb 12 (length body) && eqb ((length body - 12) % 16) 0) (leb (u32_at 8 body) ((length body - 12) / 16)) (and_from (leb 12 (length body)) (eqb ((length body - 12) % 16) 0) t1 t2) t3)
-    ∙ ap (λ (k : ℕ). main_of k (items_at 12 16 (u32_at 8 body) body)) slice
-    ∙ ap (λ (k : ℕ). main_of s (items_at 12 16 k body)) count
-    ∙ ap (main_of s) there
+    grind (arith, t1, t2, t3, slice, count, there)
 
 -- ---- IFSC
 
@@ -86,18 +82,8 @@ ifsc_reads file long each = unfold read_ifsc in
     let rest : List ℕ = flat_map pair_bytes file.pairs in
     let body : List ℕ = ifsc_bytes file in
     let lens = pair_lengths file.pairs each in
-    let items : length rest ≡ 20 * n = length_items pair_bytes 20 file.pairs lens in
-    let size : length body ≡ 16 + 20 * n = length-append file.id rest ∙ ap (λ (k : ℕ). k + length rest) long ∙ ap (λ (k : ℕ). 16 + k) items in
-    let count : (length body - 16) / 20 ≡ n = omega (arith, size) in
-    let there : items_at 16 20 n body ≡ map pair_bytes file.pairs = items_there pair_bytes 16 20 body file.id file.pairs 0 lens long refl in
-    let t1 : leb 16 (length body) ≡ true = le-leb 16 (length body) (omega (arith, size)) in
-    let t2 : eqb ((length body - 16) % 20) 0 ≡ true = eq-eqb ((length body - 16) % 20) 0 (omega (arith, size)) in
-    cond-true (leb 16 (length body) && eqb ((length body - 16) % 20) 0) (ifsc_of (bytes_at 0 16 body) (map pair_in (items_at 16 20 ((length body - 16) / 20) body))) None
-    (and_from (leb 16 (length body)) (eqb ((length body - 16) % 20) 0) t1 t2)
-    ∙ ap (λ (t : List ℕ). ifsc_of t (map pair_in (items_at 16 20 ((length body - 16) / 20) body))) (take_at file.id rest 16 long)
-    ∙ ap (λ (k : ℕ). ifsc_of file.id (map pair_in (items_at 16 20 k body))) count
-    ∙ ap (λ (ts : List (List ℕ)). ifsc_of file.id (map pair_in ts)) there
-    ∙ ap (ifsc_of file.id) (pairs_there file.pairs each)
+    let size : length body ≡ 16 + 20 * n = length-append file.id rest ∙ ap (λ (k : ℕ). k + length rest) long ∙ ap (λ (k : ℕ). 16 + k) (length_items pair_bytes 20 file.pairs lens) in
+    grind (arith, cond-true, leb, eqb, and_from, le-leb, eq-eqb, (take_at file.id rest 16 long), (items_there pair_bytes 16 20 body file.id file.pairs 0 lens long refl), (pairs_there file.pairs each))
 
 -- ---- zeros at the end
 
@@ -116,8 +102,7 @@ none_reversed [] h = refl
 none_reversed (x ∷ xs) h =
     let p = or_parts (is_zero x) (list_any is_zero xs) h in
     let reversed : reverse (x ∷ xs) ≡ reverse xs ++ x ∷ [] = reverse-append (x ∷ []) xs in
-    ap (list_any is_zero) reversed ∙ list_any-append is_zero (reverse xs) (x ∷ [])
-    ∙ or_from (list_any is_zero (reverse xs)) (list_any is_zero (x ∷ [])) (none_reversed xs p.1) (or_from (is_zero x) false p.0 refl)
+    grind (arith, reversed, (list_any-append is_zero (reverse xs) (x ∷ [])), (or_from (list_any is_zero (reverse xs)) (list_any is_zero (x ∷ [])) (none_reversed xs p.1) (or_from (is_zero x) false p.0 refl)))
 
 zeros_reversed : (k : ℕ) → reverse (zeros k) ≡ zeros k
 zeros_reversed zero = refl
@@ -179,12 +164,7 @@ desc_reads file i d s low none = unfold read_desc in
     let e5 : without_end_zeros (drop 56 body) ≡ file.name =
     ap without_end_zeros (ap (drop 56) (at_56 file.id file.md5 file.md5_16k n name) ∙ drop_at (file.id ++ (file.md5 ++ (file.md5_16k ++ n))) name 56 size56)
     ∙ stripped-padded file.name ((4 - length file.name % 4) % 4) none in
-    cond-true (leb 56 (length body)) (desc_of (bytes_at 0 16 body) (bytes_at 16 16 body) (bytes_at 32 16 body) (u64_at 48 body) (without_end_zeros (drop 56 body))) None t
-    ∙ ap (λ (x : List ℕ). desc_of x (bytes_at 16 16 body) (bytes_at 32 16 body) (u64_at 48 body) (without_end_zeros (drop 56 body))) e1
-    ∙ ap (λ (x : List ℕ). desc_of file.id x (bytes_at 32 16 body) (u64_at 48 body) (without_end_zeros (drop 56 body))) e2
-    ∙ ap (λ (x : List ℕ). desc_of file.id file.md5 x (u64_at 48 body) (without_end_zeros (drop 56 body))) e3
-    ∙ ap (λ (x : ℕ). desc_of file.id file.md5 file.md5_16k x (without_end_zeros (drop 56 body))) e4
-    ∙ ap (λ (x : List ℕ). desc_of file.id file.md5 file.md5_16k file.length x) e5
+    grind (arith, t, e1, e2, e3, e4, e5)
 
 -- ---- the known kinds are read back as themselves
 
@@ -200,15 +180,11 @@ made id kind body n sixteen known size few = grind arith
 
 -- ---- each packet
 
-ids_sixteen : (files : List FileRecord) → AllByRecursion IsFileRecord files → AllByRecursion (λ file. length file.id ≡ 16) files
-ids_sixteen [] h = tt
-ids_sixteen (file ∷ files) h = (h.0.id, ids_sixteen files h.1)
-
 pub main_packet : (s : ℕ) (files : List FileRecord) → length files < 2 ^ 32 → AllByRecursion IsFileRecord files → IsPacket (packet_of (main_id s files) Main (main_bytes s files))
 main_packet s files few each =
     let n : ℕ = length files in
     let rest : List ℕ = flat_map (λ (file : FileRecord). file.id) files in
-    let items : length rest ≡ 16 * n = length_items (λ (file : FileRecord). file.id) 16 files (ids_sixteen files each) in
+    let items : length rest ≡ 16 * n = length_items (λ (file : FileRecord). file.id) 16 files (all_weaker _ _ (λ file is. is.id) files each) in
     let size : length (main_bytes s files) ≡ 12 + 16 * n = length-append (to_le_bytes w64 s ++ to_le_bytes w32 n) rest ∙ ap (λ (k : ℕ). 12 + k) items in
     made (main_id s files) Main (main_bytes s files) (3 + 4 * n) (length-md5 (main_bytes s files)) main_known (omega (arith, size)) (omega (arith, few))
 
@@ -216,10 +192,7 @@ pub desc_packet : (id : List ℕ) (file : FileRecord) → length id ≡ 16 → I
 desc_packet id file sixteen is = unfold kind_of in grind (arith, length-append, made, length-replicate)
 
 pub ifsc_packet : (id : List ℕ) (file : FileRecord) → length id ≡ 16 → IsFileRecord file → IsPacket (packet_of id Ifsc (ifsc_bytes file))
-ifsc_packet id file sixteen is =
-    let items : length (flat_map pair_bytes file.pairs) ≡ 20 * length file.pairs = length_items pair_bytes 20 file.pairs (pair_lengths file.pairs is.pairs) in
-    let size : length (ifsc_bytes file) ≡ 16 + 20 * length file.pairs = length-append file.id (flat_map pair_bytes file.pairs) ∙ omega (arith, is.id, items) in
-    made id Ifsc (ifsc_bytes file) (4 + 5 * length file.pairs) sixteen ifsc_known (omega (arith, size)) (omega (arith, is.pairs_size))
+ifsc_packet id file sixteen is = grind (arith, (length_items pair_bytes 20 file.pairs (pair_lengths file.pairs is.pairs)), (length-append file.id (flat_map pair_bytes file.pairs)), made, ifsc_known)
 
 pub creator_packet : (id : List ℕ) → length id ≡ 16 → IsPacket (packet_of id Creator creator_bytes)
 creator_packet id sixteen = unfold kind_of in grind (arith, made)
@@ -240,9 +213,7 @@ index_made s files few each = unfold index_packets in
     let ifscs : AllByRecursion IsPacket (map (λ file. packet_of id Ifsc (ifsc_bytes file)) files) = of_each_file _ files (λ file is. ifsc_packet id file sixteen is) each in
     let front : AllByRecursion IsPacket (packet_of id Main (main_bytes s files) ∷ map (λ file. packet_of id FileDesc (desc_bytes file)) files) = (main_packet s files few each, descs) in
     let end : AllByRecursion IsPacket (packet_of id Creator creator_bytes ∷ []) = (creator_packet id sixteen, tt) in
-    all-append IsPacket (packet_of id Main (main_bytes s files) ∷ map (λ file. packet_of id FileDesc (desc_bytes file)) files ++ map (λ file. packet_of id Ifsc (ifsc_bytes file)) files)
-    (packet_of id Creator creator_bytes ∷ [])
-    (all-append IsPacket (packet_of id Main (main_bytes s files) ∷ map (λ file. packet_of id FileDesc (desc_bytes file)) files) (map (λ file. packet_of id Ifsc (ifsc_bytes file)) files) front ifscs) end
+    grind (arith, all-append)
 
 pub index_reads : (s : ℕ) (files : List FileRecord) (bytes : List ℕ) → length files < 2 ^ 32 → AllByRecursion IsFileRecord files
     → accepted (flat_map packet (index_packets s files) ++ bytes) ≡ index_packets s files ++ accepted bytes
@@ -255,8 +226,7 @@ words_length f (p ∷ places) = grind (arith, length-append, words_length f plac
 -- a recovery slice is as long as the slices
 pub recovery_length : (s : ℕ) (buffers : List (List ℕ)) (e : ℕ) → s % 2 ≡ 0 → length (recovery s buffers e) ≡ s
 recovery_length s buffers e even = unfold recovery combination in
-    let size : length (recovery s buffers e) ≡ 2 * length (range_with_len 0 (s / 2)) = words_length (λ p. dot (coefficients (range_with_len 0 (length buffers)) e) (map (word p) buffers)) (range_with_len 0 (s / 2)) in
-    omega (arith, size, length-range_with_len 0 (s / 2), even)
+    omega (arith, (words_length (λ p. dot (coefficients (range_with_len 0 (length buffers)) e) (map (word p) buffers)) (range_with_len 0 (s / 2))), length-range_with_len 0 (s / 2), even)
 
 pub recovery_made : (s : ℕ) (id : List ℕ) (buffers : List (List ℕ)) (e n : ℕ) → length id ≡ 16 → s % 4 ≡ 0 → s < 2 ^ 60 → AllByRecursion IsPacket (recovery_packets s id buffers e n)
 recovery_made s id buffers e n sixteen even few =

@@ -32,5 +32,9 @@ pub mod Journals
 pub mod Opening
 pub mod Stores
 pub mod Laws
+pub mod Premises
+pub mod KnownFiles
+pub mod Damage
+pub mod RepairLaws
 pub mod Answers
 pub mod Planned

@@ -1,9 +1,6 @@
-use Rattle.par2_laws.proofs.Common.{◌≡◌, ◌∙◌, refl, sym, subst, false, Repair, after}
+use Rattle.par2_laws.proofs.Common.{◌≡◌, ◌∙◌, refl, sym, subst, false, Repair, after, fits_of, HoldsRepaired, after_repair, candidates}
 use Rattle.par2_laws.proofs.Reading.{read_of}
-use Rattle.par2_spec.proofs.ReadLaws.{fits_of}
 use Rattle.par2_spec.proofs.RepairLaws.{asides_free, fits_all, repaired_holds}
-use Rattle.par2_spec.specs.Repairs.{HoldsRepaired, after_repair}
-use Rattle.par2_spec.specs.Search.{candidates}
 use Rattle.par2_laws.proofs.answers.repair_leaves_each_file.Goals as goal
 
 pub returns : goal.returns

@@ -13,8 +13,8 @@ use Rattle.par2_spec.specs.Sets.{ParSet}
 use Rattle.par2_spec.specs.Volumes.{all_slices}
 use Rattle.par2_spec.specs.declared.Fault.{Fault}
 use Rattle.par2_spec.specs.declared.Fault.TheVariants.{Memory, NotRepairable, RepairFailed}
-use Rattle.par2_laws.specs.Creates.{FollowsCreate, HaveAChoice, may_refuse}
-use Rattle.par2_laws.specs.Premises.{HoldsBytes, IsTrueTo}
+use Rattle.par2_spec.specs.Damage.{FollowsCreate, HaveAChoice, may_refuse}
+use Rattle.par2_spec.specs.Premises.{HoldsBytes, IsTrueTo}
 
 -- the result of a call, as the folder that it leaves
 abbrev pub folder_left : {A : Type 0} → (A → Folder) → Result A Fault → Result Folder Fault

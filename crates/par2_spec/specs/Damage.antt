@@ -12,7 +12,7 @@ use Rattle.par2_spec.specs.Commands.{CreateArgs, Create, files_of, outputs_of}
 use Rattle.par2_spec.specs.Refusals.{refusal, after}
 use Rattle.par2_spec.specs.declared.Fault.{Fault}
 use Rattle.par2_spec.specs.declared.Fault.TheVariants.{NoSuchFile, NotRepairable, NameTooLong}
-use Rattle.par2_laws.specs.Volumes.{IsVolumeOrOther}
+use Rattle.par2_spec.specs.KnownFiles.{IsVolumeOrOther}
 
 -- the names of the files that a create writes
 abbrev pub written_names : Folder → CreateArgs → List (List ℕ)

@@ -1,4 +1,0 @@
-pub mod Premises
-pub mod Volumes
-pub mod Creates
-pub mod Answers
