@@ -1,5 +1,5 @@
 -- An offer, put together.
-use Rattle.par2_matrix.proofs.Common.{ℕ, ◌+◌, ◌*◌, ◌<◌, ◌≡◌, ◌≢◌, sym, ◌∙◌, subst, arith, List, length, get_or, cases_lt, word, product-zero, echelon, IsReduced, PutAt, ReducedBelow, IsPrepared, list_at, word-lt, by_either}
+use Rattle.par2_matrix.proofs.Common.{ℕ, ◌+◌, ◌*◌, ◌<◌, ◌≡◌, ◌≢◌, ◌∙◌, arith, List, length, get_or, cases_lt, word, product-zero, echelon, IsReduced, PutAt, ReducedBelow, IsPrepared, list_at, word-lt, by_either}
 use Rattle.par2_matrix.proofs.ReducedSystems.{IsDistinguished, distinguished, all_present, present_at_most}
 use Rattle.par2_matrix.proofs.Placing.{Placed, Cut, cut_down}
 use Rattle.par2_matrix.proofs.Standing.{placed_reduced}
@@ -53,16 +53,4 @@ pub offered : (n b rank : ℕ) (R D R1 D1 R2 D2 R3 D3 R'' D'' : List (List ℕ))
     → a1 ≡ r0 → a2 ≡ d0 → length d0 ≡ b → n1 ≡ n → R1 ≡ R → D1 ≡ D → IsPrepared (echelon n1 (length a2) 0 R1 D1) a1 a2 row right q
     → x ≡ row → y ≡ right → R2 ≡ R → D2 ≡ D → R'' ≡ R3 → D'' ≡ D3 → PutAt q x y R2 D2 R3 D3 → IsTaken n b rank r0 d0 R D R'' D''
 offered n b rank R D R1 D1 R2 D2 R3 D3 R'' D'' n1 r0 d0 a1 a2 row right x y q r ea1 ea2 eb en eR1 eD1 p ex ey eR2 eD2 eR3 eD3 put =
-    let p1 : IsPrepared (echelon n1 (length a2) 0 R D) a1 a2 row right q =
-    subst (λ z. IsPrepared (echelon n1 (length a2) 0 R z) a1 a2 row right q) eD1 (subst (λ z. IsPrepared (echelon n1 (length a2) 0 z D1) a1 a2 row right q) eR1 p) in
-    let p2 : IsPrepared (echelon n1 (length d0) 0 R D) r0 d0 row right q =
-    subst (λ z. IsPrepared (echelon n1 (length z) 0 R D) r0 z row right q) ea2 (subst (λ z. IsPrepared (echelon n1 (length a2) 0 R D) z a2 row right q) ea1 p1) in
-    let p3 : IsPrepared (echelon n b 0 R D) r0 d0 row right q =
-    subst (λ z. IsPrepared (echelon n z 0 R D) r0 d0 row right q) eb (subst (λ z. IsPrepared (echelon z (length d0) 0 R D) r0 d0 row right q) en p2) in
-    let q1 : PutAt q row right R2 D2 R3 D3 =
-    subst (λ z. PutAt q row z R2 D2 R3 D3) ey (subst (λ z. PutAt q z y R2 D2 R3 D3) ex put) in
-    let q2 : PutAt q row right R D R3 D3 =
-    subst (λ z. PutAt q row right R z R3 D3) eD2 (subst (λ z. PutAt q row right z D2 R3 D3) eR2 q1) in
-    let q3 : PutAt q row right R D R'' D'' =
-    subst (λ z. PutAt q row right R D R'' z) (sym eD3) (subst (λ z. PutAt q row right R D z D3) (sym eR3) q2) in
-    taken_whole n b rank R D R'' D'' r0 d0 row right q r p3 q3
+    taken_whole n b rank R D R'' D'' r0 d0 row right q r (rw (ea1, ea2, eb, en, eR1, eD1) at p) (rw (ex, ey, eR2, eD2, ← eR3, ← eD3) at put)

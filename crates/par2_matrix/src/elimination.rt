@@ -82,6 +82,7 @@ fn first_nonzero(row: &[u8]) -> Option<usize>
 }
 
 // Scales the equation so that its element at q is 1, as that of a pivot must be.
+#[tactic(auto, using(crate::proofs::Taking::multiple_of, crate::proofs::Taking::pivot_is))]
 fn normalize(gf: &Gf, row: &mut [u8], right: &mut [u8], q: usize)
     // The element at q is not 0.
     requires place { 2 * q + 1 < length row.old }

@@ -54,6 +54,29 @@ within_same from to p x y same = elim (cases_lt p from) [
   ]
 ]
 
+pub zero_either_way : (b : Bool) (x : ℕ) → x ≡ 0 → (if b then x else 0) ≡ 0
+zero_either_way true x none = none
+zero_either_way false x none = refl
+
+pub within_zero : (from to p x : ℕ) → x ≡ 0 → within from to p x ≡ 0
+within_zero from to p x is = zero_either_way (nat_le from p && nat_lt p to) x is
+
+pub within_none : (from to p x : ℕ) → to ≤ from → within from to p x ≡ 0
+within_none from to p x empty = elim (cases_lt p from) [ inl below ↦ within-below from to p x below | inr above ↦ within-above from to p x (omega (arith, above)) ]
+
+-- two ranges with the same end, as far as p goes
+pub within_cut : (from to end p x : ℕ) → (p < to → p < end) → (p < end → p < to) → within from to p x ≡ within from end p x
+within_cut from to end p x more less = elim (cases_lt p from) [
+  | inl below ↦ within-below from to p x below ∙ sym (within-below from end p x below)
+  | inr here ↦ elim (cases_lt p to) [
+    | inl low ↦ within-in from to p x here low ∙ sym (within-in from end p x here (more low))
+    | inr high ↦ elim (cases_lt p end) [
+      | inl low ↦ (let l = less low in absurd (omega (arith, l, high)))
+      | inr above ↦ within-above from to p x high ∙ sym (within-above from end p x above)
+    ]
+  ]
+]
+
 -- a range and a position, both shifted
 pub within_moved : (at n q p x : ℕ) → p ≡ at + q → within 0 n q x ≡ within at (at + n) p x
 within_moved at n q p x is = elim (cases_lt q n) [
@@ -92,6 +115,23 @@ adds_same places len first second old new a same = record {
   each = λ t p low fits. a.each t p low fits ∙ ap (bit_xor (output_word places t p old)) (same t p low fits);
   others = a.others;
 }
+
+-- What is added range by range: `at` says for each word of an output which number it has.
+
+pub adds_empty : {places : List Place} {len : ℕ} {buffers : List (List ℕ)} (at given : ℕ → ℕ → ℕ) (a b : ℕ) → b ≤ a → AddsAt places len (λ t p. within a b (at t p) (given t p)) buffers buffers
+adds_empty {places = places} {len = len} {buffers = buffers} at given a b empty =
+    adds_none places len (λ t p. within a b (at t p) (given t p)) buffers (λ t p. within_none a b (at t p) (given t p) empty)
+
+pub adds_range : {places : List Place} {len : ℕ} {was half buffers : List (List ℕ)} (at given : ℕ → ℕ → ℕ) (a b d : ℕ) → AddsAt places len (λ t p. within a b (at t p) (given t p)) was half
+    → AddsAt places len (λ t p. within b d (at t p) (given t p)) half buffers → a ≤ b → b ≤ d → AddsAt places len (λ t p. within a d (at t p) (given t p)) was buffers
+adds_range {places = places} {len = len} {was = was} {half = half} {buffers = buffers} at given a b d first second ab bd =
+    adds_more places len (λ t p. within a b (at t p) (given t p)) (λ t p. within b d (at t p) (given t p)) (λ t p. within a d (at t p) (given t p)) was half buffers first second
+    (λ t p low fits. within_joined a b d (at t p) (given t p) ab bd)
+
+pub adds_whole : {places : List Place} {len : ℕ} {was buffers : List (List ℕ)} (at given : ℕ → ℕ → ℕ) (b : ℕ) → AddsAt places len (λ t p. within 0 b (at t p) (given t p)) was buffers
+    → ((t p : ℕ) → t < length places → p < len → at t p < b) → AddsAt places len given was buffers
+adds_whole {places = places} {len = len} {was = was} {buffers = buffers} at given b added all =
+    adds_same places len (λ t p. within 0 b (at t p) (given t p)) given was buffers added (λ t p low fits. within-in 0 b (at t p) (given t p) (omega arith) (all t p low fits))
 
 -- a sum with one more term
 pub adds_next : (places : List Place) (len n : ℕ) (part : ℕ → ℕ → ℕ → ℕ) (old mid new : List (List ℕ)) → AddsAt places len (λ t p. field_sum n (λ j. part j t p)) old mid → AddsAt places len (part n) mid new
@@ -266,3 +306,6 @@ pub zeros_read : (m i : ℕ) → get_or {A = ℕ} (replicate m 0) i 0 ≡ 0
 zeros_read zero i = refl
 zeros_read (suc m) zero = refl
 zeros_read (suc m) (suc i) = zeros_read m i
+
+-- what `auto` is given for the code
+pub ruleset steps = (adds_within)

@@ -1,7 +1,8 @@
 -- Blocks of outputs, one after the other.
-use Rattle.par2_transform.proofs.Common.{inl, inr, ℕ, ◌+◌, ◌-◌, ◌*◌, ◌<◌, ◌≡◌, ◌≢◌, refl, sym, ap, ap₂, subst, ◌∙◌, arith, bit_xor, List, [], ◌∷◌, ◌++◌, length, get_or, length-append, get_or_append_left, get_or_at, get_or_default, get_or-set_other, get_or-set_same, length-set, mul, Grid, column, IsAdded, cases_eq, cases_lt, AddsAt, Outputs, IsBlock, AreBlocks, RowsGathered, BlocksBecome, Keeps, from_gathered, within, outputs_at, weight_at, Cut, HasWeights, Place, field_sum}
+use Rattle.par2_transform.proofs.Common.{inl, inr, ℕ, ◌+◌, ◌-◌, ◌*◌, ◌<◌, ◌≡◌, ◌≢◌, refl, sym, ap, ap₂, subst, ◌∙◌, arith, bit_xor, List, [], ◌∷◌, ◌++◌, length, get_or, length-append, get_or_append_left, get_or_at, get_or_default, get_or-set_other, get_or-set_same, length-set, length-map-range_with_len, get_or-map-range_with_len, map, range_with_len, Tabulates, mul, Grid, column, IsAdded, cases_eq, cases_lt, AddsAt, Outputs, IsBlock, AreBlocks, RowsGathered, BlocksBecome, Keeps, from_gathered, within, outputs_at, weight_at, Cut, HasWeights, Place, field_sum, YieldsList-from_map, YieldsList-from_range, items_from_collect}
 use Rattle.std.proofs.Math.ListN.{set}
-use Rattle.par2_transform.proofs.AddingLaws.{adds_none, adds_next}
+use Rattle.par2_transform.proofs.AddingLaws.{adds_none, adds_next, still_within}
+use Rattle.par2_transform.proofs.ColumnLaws.{still_fits}
 
 -- the part of block j, of `size` outputs, in word p of output t, for the columns from `from` up to `to`
 abbrev pub block_part : Cut → ℕ → ℕ → ℕ → ℕ → Outputs → ℕ → ℕ → ℕ → ℕ
@@ -95,23 +96,10 @@ next_row weights values old mid new n factor so_far is added = record {
 
 -- ---- tables
 
--- a list of the first n values of f
-pub record Tabulates (f : ℕ → ℕ) (n : ℕ) (xs : List ℕ) : Type 0 where
-  pub count : length xs ≡ n
-  pub each : (i : ℕ) → i < n → get_or xs i 0 ≡ f i
-
-pub no_value : (f : ℕ → ℕ) → Tabulates f 0 []
-no_value f = record { count = refl; each = λ i h. absurd (omega arith) }
-
-pub next_value : (f : ℕ → ℕ) (n x : ℕ) (xs : List ℕ) → Tabulates f n xs → x ≡ f n → Tabulates f (n + 1) (xs ++ x ∷ [])
-next_value f n x xs so_far is = record {
-  count = length-append xs (x ∷ []) ∙ ap (λ k. k + 1) so_far.count;
-  each = λ i h. elim (cases_lt i n) [
-    | inl low ↦ get_or_append_left xs (x ∷ []) 0 i (let e = so_far.count in omega (arith, e)) ∙ so_far.each i low
-    | inr high ↦
-        (let same : i ≡ n = omega arith in
-        ap (λ k. get_or (xs ++ x ∷ []) k 0) same ∙ get_or_at xs x [] 0 n so_far.count ∙ is ∙ ap f (sym same))
-  ];
+pub tabulated : (f : ℕ → ℕ) (n : ℕ) (xs : List ℕ) → xs ≡ map f (range_with_len 0 n) → Tabulates f n xs
+tabulated f n xs is = record {
+  count = ap length is ∙ length-map-range_with_len f 0 n;
+  each = λ m low. ap (λ ys. get_or ys m 0) is ∙ get_or-map-range_with_len f 0 n m m 0 low (omega arith);
 }
 
 -- ---- blocks made
@@ -142,3 +130,8 @@ next_block cut columns first size n e blocks block so_far is place = record {
 
     here : outputs_at (blocks ++ block ∷ []) n ≡ block
     here = get_or_at blocks block [] none n so_far.count
+
+-- what `auto` is given for the code
+pub ruleset steps = (is_block_at, none_becomes, next_becomes, one_set, no_row, next_row, still_fits, still_within)
+
+pub ruleset tables = (YieldsList-from_map, YieldsList-from_range, items_from_collect, tabulated)

@@ -126,3 +126,5 @@ padded_copy bytes front back n m count is zeros k h =
       | inl low ↦ get_or_append_left front back 0 k (omega (arith, size, low)) ∙ ap (λ xs. get_or xs k 0) is ∙ get_or-take n bytes k 0 low
       | inr high ↦ get_or-append_right front back n k 0 size high ∙ zeros (k - n) ∙ sym (get_or_past bytes k 0 (omega (arith, count, high)))
     ]
+
+pub ruleset butterflies = (length-take-le, added_both)

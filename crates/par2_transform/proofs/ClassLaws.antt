@@ -1,8 +1,9 @@
 -- From blocks of outputs to the part of a class, and from classes to recovery slices.
 use Rattle.par2_transform.proofs.Common.{inl, inr, ℕ, suc, ◌+◌, ◌-◌, ◌*◌, ◌/◌, ◌%◌, ◌^◌, ◌<◌, ◌≤◌, ◌≡◌, ◌≢◌, refl, sym, ap, ◌∙◌, arith, List, length, [], cases_lt, div-mul-le_self, mul-le-mul_right, mod-lt, lt_of_le-ne, div-add-mod', if◌then◌else◌, not, ◌==◌, ◌&&◌, mul, pow, is_coprime, product-zero, get_or_past, word, list_at, field_sum, word-lt, field_sum_same, field_sum_one, field_sum_none, within, AddsAt, Outputs, IsBlock, IsGathered, EachBlock, AreBlocks, CoverOutputs, HasSize, outputs_at, from_gathered, class_sum_at, weight_at, chirp_inverse, coprimes_below, AreWordsOfFirst, word_at_power, words_at, AreByteLists, recovered, Grid, column, point, Cut, Reaches, gathered, Place}
-use Rattle.std.specs.Prelude.{false}
+use Rattle.std.specs.Prelude.{false, nat_le, nat_lt, true}
+use Rattle.std.proofs.Common.{Bool}
 use Rattle.par2_transform.proofs.BlockLaws.{block_part}
-use Rattle.par2_transform.proofs.AddingLaws.{adds_none, adds_next, adds_same, within-in, within-below, within-above, within_same}
+use Rattle.par2_transform.proofs.AddingLaws.{adds_none, adds_next, adds_same, within-in, within-below, within-above, within_same, within_zero}
 use Rattle.par2_transform.proofs.Transforms.{class_by_windows, sum_by_classes}
 
 -- a gathered block adds to each of its exponents the part of the class
@@ -86,13 +87,11 @@ words_are_first slices p few bytes = record {
 -- ---- all classes
 
 within_sum : (n from to p : ℕ) (f : ℕ → ℕ) → field_sum n (λ r. within from to p (f r)) ≡ within from to p (field_sum n f)
-within_sum n from to p f = elim (cases_lt p from) [
-  | inl below ↦ field_sum_none n (λ r. within from to p (f r)) (λ r h. within-below from to p (f r) below) ∙ sym (within-below from to p (field_sum n f) below)
-  | inr at_least ↦ elim (cases_lt p to) [
-    | inl here ↦ field_sum_same n (λ r. within from to p (f r)) f (λ r h. within-in from to p (f r) at_least here) ∙ sym (within-in from to p (field_sum n f) at_least here)
-    | inr above ↦ field_sum_none n (λ r. within from to p (f r)) (λ r h. within-above from to p (f r) above) ∙ sym (within-above from to p (field_sum n f) above)
-  ]
-]
+within_sum n from to p f = parts (nat_le from p && nat_lt p to)
+  where
+    parts : (b : Bool) → field_sum n (λ r. if b then f r else 0) ≡ (if b then field_sum n f else 0)
+    parts true = refl
+    parts false = field_sum_none n (λ r. 0) (λ r h. refl)
 
 -- the first n classes have been added, in the columns from `from` up to `to`
 pub record ClassesAdded (places : List Place) (len : ℕ) (cut : Cut) (slices : List (List ℕ)) (words first size from to n : ℕ) (rows : Grid) (blocks : List Outputs) (was buffers : List (List ℕ)) : Type 0 where
@@ -145,10 +144,4 @@ pub nothing_added : (places : List Place) (len : ℕ) (cut : Cut) (slices : List
     → AddsAt places len (λ t p. within from to p (class_sum_at cut (words_at slices p) (first + t) 0)) buffers buffers
 nothing_added places len cut slices first from to buffers three =
     adds_none places len (λ t p. within from to p (class_sum_at cut (words_at slices p) (first + t) 0)) buffers
-    (λ t p. ap (within from to p) (first_class_gives cut (words_at slices p) (first + t) three) ∙ zero from to p)
-  where
-    zero : (from to p : ℕ) → within from to p 0 ≡ 0
-    zero from to p = elim (cases_lt p from) [
-      | inl below ↦ within-below from to p 0 below
-      | inr at_least ↦ elim (cases_lt p to) [ inl here ↦ within-in from to p 0 at_least here | inr above ↦ within-above from to p 0 above ]
-    ]
+    (λ t p. within_zero from to p (class_sum_at cut (words_at slices p) (first + t) 0) (first_class_gives cut (words_at slices p) (first + t) three))

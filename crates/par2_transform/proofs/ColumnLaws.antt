@@ -1,6 +1,6 @@
 -- Columns of words, one block of columns after the other.
-use Rattle.par2_transform.proofs.Common.{Adds, Fit, Global, Vec, lists_of, subst, sym, div_ceil, div_ceil_times, slice_begins, ℕ, ◌+◌, ◌*◌, ◌<◌, ◌≤◌, ◌≡◌, ap, ◌∙◌, arith, bit_xor, List, min, within, AddsAt, LieWithin, Columns, Places}
-use Rattle.par2_transform.proofs.AddingLaws.{adds_none, adds_more, adds_same, still_within, within-in, within-above, within_joined}
+use Rattle.par2_transform.proofs.Common.{Adds, Fit, Global, Vec, lists_of, subst, sym, div_ceil, div_ceil_times, slice_begins, ℕ, ◌+◌, ◌*◌, ◌<◌, ◌≤◌, ◌≡◌, arith, List, min, within, AddsAt, LieWithin, Columns, Places}
+use Rattle.par2_transform.proofs.AddingLaws.{adds_empty, adds_range, adds_whole, still_within}
 
 -- a block of columns begins before the words end
 pub begins : (words columns k n : ℕ) → 1 ≤ columns → n ≡ div_ceil words columns → k < n → k * columns < words
@@ -27,24 +27,22 @@ abbrev pub WordsAdded : Places → ℕ → (ℕ → ℕ → ℕ) → ℕ → Lis
 WordsAdded outputs width given n was buffers = AddsAt outputs.places.now outputs.words (λ t p. within 0 (min outputs.words (n * width)) p (given t p)) was buffers
 
 pub no_words : (outputs : Places) (width : ℕ) (given : ℕ → ℕ → ℕ) (buffers : List (List ℕ)) → WordsAdded outputs width given 0 buffers buffers
-no_words outputs width given buffers =
-    adds_none outputs.places.now outputs.words (λ t p. within 0 (min outputs.words (0 * width)) p (given t p)) buffers (λ t p. within-above 0 (min outputs.words (0 * width)) p (given t p) (omega arith))
+no_words outputs width given buffers = adds_empty (λ t p. p) given 0 (min outputs.words (0 * width)) (omega arith)
 
 pub next_words : (outputs : Places) (columns : Columns) (width n : ℕ) (given : ℕ → ℕ → ℕ) (was half buffers : List (List ℕ)) → WordsAdded outputs width given n was half → n * width < outputs.words
     → columns.outputs ≡ outputs → columns.from ≡ n * width → columns.to ≡ min outputs.words ((n + 1) * width)
     → AddsAt columns.outputs.places.now columns.outputs.words (λ t p. within columns.from columns.to p (given t p)) half buffers → WordsAdded outputs width given (n + 1) was buffers
 next_words outputs columns width n given was half buffers so_far low same from to added =
     let here : min outputs.words (n * width) ≡ columns.from = omega (arith, low, from) in
-    adds_more outputs.places.now outputs.words (λ t p. within 0 (min outputs.words (n * width)) p (given t p)) (λ t p. within columns.from columns.to p (given t p)) (λ t p. within 0 (min outputs.words ((n + 1) * width)) p (given t p)) was half buffers so_far
-    (subst (λ (o : Places). AddsAt o.places.now o.words (λ t p. within columns.from columns.to p (given t p)) half buffers) same added)
-    (λ t p h fits.
-    ap (λ m. bit_xor (within 0 m p (given t p)) (within columns.from columns.to p (given t p))) here
-    ∙ within_joined 0 columns.from columns.to p (given t p) (omega arith) columns.order
-    ∙ ap (λ m. within 0 m p (given t p)) to)
+    subst (λ m. AddsAt outputs.places.now outputs.words (λ t p. within 0 m p (given t p)) was buffers) to
+    (adds_range (λ t p. p) given 0 columns.from columns.to (subst (λ m. AddsAt outputs.places.now outputs.words (λ t p. within 0 m p (given t p)) was half) here so_far)
+    (subst (λ (o : Places). AddsAt o.places.now o.words (λ t p. within columns.from columns.to p (given t p)) half buffers) same added) (omega arith) columns.order)
 
 pub all_words : (outputs : Places) (width n : ℕ) (given : ℕ → ℕ → ℕ) (was buffers : List (List ℕ)) → 1 ≤ width → n ≡ div_ceil outputs.words width → WordsAdded outputs width given n was buffers
     → AddsAt outputs.places.now outputs.words given was buffers
 all_words outputs width n given was buffers some is added =
     let enough : outputs.words ≤ n * width = subst (λ m. outputs.words ≤ m * width) (sym is) (div_ceil_times outputs.words width (omega (arith, some))).0 in
-    adds_same outputs.places.now outputs.words (λ t p. within 0 (min outputs.words (n * width)) p (given t p)) given was buffers added
-    (λ t p h fits. within-in 0 (min outputs.words (n * width)) p (given t p) (omega arith) (omega (arith, enough, fits)))
+    adds_whole (λ t p. p) given (min outputs.words (n * width)) added (λ t p h fits. omega (arith, enough, fits))
+
+-- what `auto` is given for the code
+pub ruleset steps = (begins, columns_within, no_words, next_words, all_words)

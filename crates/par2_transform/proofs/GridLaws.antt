@@ -1,7 +1,7 @@
 -- Rows and their columns.
 use Rattle.par2_transform.proofs.Common.{AreTwoRuns, HaveFirst, ℕ, suc, ◌+◌, ◌-◌, ◌*◌, ◌^◌, ◌<◌, ◌≤◌, ◌≡◌, ◌⊎◌, inl, inr, refl, sym, ap, ap₂, ◌∙◌, subst, List, length, get_or, bit_xor, arith, add-mul, one-mul, Vec, Global, xor_zero_l, xor_zero_r, cases_eq, cases_lt, get_or_past, with_items_is, word, within, AddsBoth, AddsTo, Grid, column, AreCopied, AreRows, CopiesWords, IsAdded, EachColumn, IsButterfly, RunAdded, RunAddedBy, with_items}
 use Rattle.std.proofs.Common.{mul-le-mul_right}
-use Rattle.par2_transform.proofs.AddingLaws.{within-in, within-below, within-above, within_same}
+use Rattle.par2_transform.proofs.AddingLaws.{within-in, within-below, within-above, within_same, zeros_read}
 use Rattle.par2_transform.proofs.StepLaws.{butterfly_runs}
 
 pub each_start : (relation : (ℕ → ℕ) → (ℕ → ℕ) → Type 0) (a : Grid) → ((f : ℕ → ℕ) → relation f f) → EachColumn relation a a
@@ -141,6 +141,25 @@ row_added levels words to other old new are low added =
           ∙ ap₂ (λ t p. bit_xor (column (record { levels = levels; words = words; bytes = old }) c t) (other p)) (let e : to + 0 ≡ to = omega arith in e) (let e : 0 * words + c ≡ c = omega arith in e);
     }
 
+pub added_same : {old new : Grid} {to : ℕ} {first second : ℕ → ℕ} → IsAdded old new to first → ((c : ℕ) → c < old.words → first c ≡ second c) → IsAdded old new to second
+added_same {old = old} {to = to} added same = record {
+  levels = added.levels;
+  words = added.words;
+  others = added.others;
+  here = λ c h. added.here c h ∙ ap (bit_xor (column old c to)) (same c h);
+}
+
+-- the bytes of a row are written
+pub row_written : (levels words to start end : ℕ) (other : ℕ → ℕ) (v : Vec ℕ Global) (old new : List ℕ) → AreRows levels words v.items → to < 2 ^ levels → start ≡ to * words → end ≡ (to + 1) * words
+    → old ≡ v.items → length new ≡ v.len → AddsTo (λ p. within start end p (other (p - start))) old new
+    → IsAdded (record { levels = levels; words = words; bytes = v.items }) (record { levels = levels; words = words; bytes = (with_items v new).items }) to other
+row_written levels words to start end other v old new are low starts ends is size added =
+    subst (λ xs. IsAdded (record { levels = levels; words = words; bytes = v.items }) (record { levels = levels; words = words; bytes = xs }) to other) (sym (with_items_is v new size))
+    (row_added levels words to other v.items new are low
+    (subst (λ xs. AddsTo (λ p. within (to * words) ((to + 1) * words) p (other (p - to * words))) xs new) is
+    (subst (λ b. AddsTo (λ p. within (to * words) b p (other (p - to * words))) old new) ends
+    (subst (λ a. AddsTo (λ p. within a end p (other (p - a))) old new) starts added))))
+
 -- f of some rows, added to as many others
 pub run_added : (f : ℕ → ℕ) (levels words at to n : ℕ) (old new : List ℕ) → AreRows levels words old → to + n ≤ 2 ^ levels
     → AddsTo (λ p. within (to * words) (to * words + n * words) p (f (word (at * words + (p - to * words)) old))) old new
@@ -223,3 +242,6 @@ next_first given i other old mid new so_far added is = record {
   ];
   none = λ c u h. added.others c u (λ e. omega (arith, e, h)) ∙ so_far.none c u (omega (arith, h));
 }
+
+-- what `auto` is given for the code
+pub ruleset steps = (zeros_read, kept_rows, row_runs, rows_before, rows_fit, zero_column)

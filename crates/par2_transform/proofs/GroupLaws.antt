@@ -1,6 +1,8 @@
 -- Outputs, group by group.
 use Rattle.par2_transform.proofs.Common.{inl, inr, ℕ, ◌+◌, ◌-◌, ◌*◌, ◌<◌, ◌≤◌, ◌≡◌, ◌≢◌, refl, sym, ap, ap₂, subst, ◌∙◌, arith, List, length, min, take, drop, bit_xor, cases_lt, get_or-take, get_or-drop, length-take-le, length-drop, xor_zero_r, slice_index, word, list_at, within, place_at, output_word, AddsAt, AreApart, HasByte, LieWithin, Place}
-use Rattle.par2_transform.proofs.AddingLaws.{adds_more, adds_same, within-in, within-below, within-above, within_joined, word_from}
+use Rattle.par2_transform.proofs.AddingLaws.{adds_empty, adds_range, adds_whole, within-in, within-below, within-above, word_from, still_within}
+use Rattle.par2_transform.proofs.ColumnLaws.{begins}
+use Rattle.par2_transform.proofs.WholeBuffers.{are_whole, whole_apart}
 
 -- some of the places
 abbrev pub group_of : ℕ → ℕ → List Place → List Place
@@ -81,15 +83,16 @@ next_group places len size total n to other was half buffers low place so_far ad
     let here : min total (n * size) ≡ n * size = omega (arith, low) in
     let next : (n + 1) * size ≡ n * size + size = omega arith in
     let there : to ≡ min total ((n + 1) * size) = omega (arith, place, next, low) in
-    adds_more places len (λ t p. within 0 (min total (n * size)) t (other t p)) (λ t p. within (n * size) to t (other t p)) (λ t p. within 0 (min total ((n + 1) * size)) t (other t p)) was half buffers so_far added
-    (λ t p h fits.
-    ap (λ m. bit_xor (within 0 m t (other t p)) (within (n * size) to t (other t p))) here
-    ∙ within_joined 0 (n * size) to t (other t p) (omega arith) (omega (arith, place))
-    ∙ ap (λ m. within 0 m t (other t p)) there)
+    subst (λ m. AddsAt places len (λ t p. within 0 m t (other t p)) was buffers) there
+    (adds_range (λ t p. t) other 0 (n * size) to (subst (λ m. AddsAt places len (λ t p. within 0 m t (other t p)) was half) here so_far) added (omega arith) (omega (arith, place)))
 
 -- all of them
 pub all_groups : (places : List Place) (len : ℕ) (size total n : ℕ) (other : ℕ → ℕ → ℕ) (was buffers : List (List ℕ)) → total ≤ n * size → length places ≡ total
     → AddsAt places len (λ t p. within 0 (min total (n * size)) t (other t p)) was buffers → AddsAt places len other was buffers
-all_groups places len size total n other was buffers enough count added =
-    adds_same places len (λ t p. within 0 (min total (n * size)) t (other t p)) other was buffers added
-    (λ t p h fits. within-in 0 (min total (n * size)) t (other t p) (omega arith) (omega (arith, enough, count, h)))
+all_groups places len size total n other was buffers enough count added = adds_whole (λ t p. t) other (min total (n * size)) added (λ t p h fits. omega (arith, enough, count, h))
+
+pub no_group : (places : List Place) (len : ℕ) (size total : ℕ) (other : ℕ → ℕ → ℕ) (buffers : List (List ℕ)) → AddsAt places len (λ t p. within 0 (min total (0 * size)) t (other t p)) buffers buffers
+no_group places len size total other buffers = adds_empty (λ t p. t) other 0 (min total (0 * size)) (omega arith)
+
+-- what `auto` is given for the code
+pub ruleset steps = (group_within, length-group, no_group, all_groups, begins, still_within, are_whole, whole_apart)

@@ -1,8 +1,7 @@
 -- Sums of sources by the error locator.
-use Rattle.par2_transform.proofs.Common.{inl, inr, suc, pow-suc, AreCopied, ℕ, ◌+◌, ◌-◌, ◌*◌, ◌%◌, ◌^◌, ◌<◌, ◌≤◌, ◌≡◌, sym, ap, ap₂, subst, ◌∙◌, arith, bit_xor, zero-add, add-mul, one-mul, List, length, get_or, slice_index, get_or_past, length-map, pow-le-pow_right, point_number, cases_eq, cases_lt, pow-add, mul-le-mul_right, word, xor_zero_l, mul, pow, GivesElements, product-lt, product_comm, product-one, product_assoc, product_linear_left, zero-product, power-lt, word-lt, field_sum, field_sum-lt, field_sum_same, field_sum_scaled, within, AddsAt, RowsGathered, AreByteLists, words_at, list_at, AreValues, AreWeights, value, from, Grid, column, IsAdded, EachColumn, ArePowerSums, power_sum, point, IsListed, AreListedValues, AreNumbered, AreNumerators, AreValuesOf, HaveFirst, IsWeighed, in_coset, numerator, quotient_sum, Place}
-use Rattle.std.proofs.Common.{map}
+use Rattle.par2_transform.proofs.Common.{map, inl, inr, suc, pow-suc, AreCopied, ℕ, ◌+◌, ◌-◌, ◌*◌, ◌%◌, ◌^◌, ◌<◌, ◌≤◌, ◌≡◌, sym, ap, ap₂, subst, ◌∙◌, arith, bit_xor, zero-add, add-mul, one-mul, List, length, get_or, slice_index, get_or_past, length-map, pow-le-pow_right, point_number, cases_lt, pow-add, mul-le-mul_right, word, xor_zero_l, mul, pow, GivesElements, product-lt, product_comm, product-one, product_assoc, product_linear_left, zero-product, power-lt, word-lt, field_sum, field_sum-lt, field_sum_same, field_sum_scaled, within, AddsAt, RowsGathered, AreByteLists, words_at, list_at, AreValues, AreWeights, value, from, Grid, column, EachColumn, ArePowerSums, power_sum, point, IsListed, AreListedValues, AreNumbered, AreNumerators, AreValuesOf, HaveFirst, IsWeighed, in_coset, numerator, quotient_sum, Place}
 use Rattle.std.proofs.lemmas.List.{get_or-map}
-use Rattle.par2_transform.proofs.AddingLaws.{adds_none, adds_more, adds_same, within-in, within-below, within-above, within_joined, within_same}
+use Rattle.par2_transform.proofs.AddingLaws.{adds_empty, adds_none, adds_range, adds_same, adds_whole, within-in, within-below, within-above, within_same, within_zero}
 use Rattle.par2_transform.specs.Combinations.{combined, IsCombination}
 use Rattle.par2_transform.proofs.CombinationLaws.{combined_same}
 use Rattle.par2_transform.specs.Locators.{AreCombinations, HoldNumerators}
@@ -11,6 +10,10 @@ use Rattle.par2_transform.proofs.OutputLaws.{power_sum_plain}
 use Rattle.par2_transform.proofs.Subspaces.{point_number-lt, point_of_number}
 use Rattle.par2_transform.proofs.Sums.{field_sum_swap, field_sum_linear}
 use Rattle.par2_transform.proofs.WindowLaws.{field_sum_short}
+use Rattle.par2_transform.proofs.ColumnLaws.{begins, columns_within, no_words, wider_fit}
+use Rattle.par2_transform.proofs.GridLaws.{no_first, next_first}
+use Rattle.par2_transform.proofs.WholeBuffers.{are_whole, whole_apart}
+use Rattle.par2_transform.proofs.CosetLaws.{all_named, next_named, none_named}
 
 -- ---- the parts of a locator
 
@@ -223,12 +226,6 @@ coset_fits k coset few low =
 pub coset_first : (k coset : ℕ) → k ≤ 16 → coset < 2 ^ (16 - k) → coset * 2 ^ k % 18446744073709551616 ≡ coset * 2 ^ k
 coset_first k coset few low = omega (arith, coset_fits k coset few low)
 
-within_zero : (from to p x : ℕ) → x ≡ 0 → within from to p x ≡ 0
-within_zero from to p x is = ap (within from to p) is ∙ (elim (cases_lt p from) [
-  | inl below ↦ within-below from to p 0 below
-  | inr at_least ↦ elim (cases_lt p to) [ inl here ↦ within-in from to p 0 at_least here | inr above ↦ within-above from to p 0 above ]
-])
-
 pub point_before : (places : List Place) (len : ℕ) (numbers : List ℕ) (k coset j : ℕ) (given : ℕ → ℕ) (buffers : List (List ℕ)) → get_or numbers j 0 < coset * 2 ^ k
     → AddsAt places len (λ t p. within j (j + 1) t (in_coset numbers k coset j (given p))) buffers buffers
 point_before places len numbers k coset j given buffers before =
@@ -259,21 +256,18 @@ abbrev pub FirstAdded : List Place → ℕ → (ℕ → ℕ → ℕ) → ℕ →
 FirstAdded places len part n was buffers = AddsAt places len (λ t p. within 0 n t (part t p)) was buffers
 
 pub none_added_yet : (places : List Place) (len : ℕ) (part : ℕ → ℕ → ℕ) (buffers : List (List ℕ)) → FirstAdded places len part 0 buffers buffers
-none_added_yet places len part buffers =
-    adds_none places len (λ t p. within 0 0 t (part t p)) buffers (λ t p. within-above 0 0 t (part t p) (omega arith))
+none_added_yet places len part buffers = adds_empty (λ t p. t) part 0 0 (omega arith)
 
 pub one_added_more : (places : List Place) (len n : ℕ) (part : ℕ → ℕ → ℕ) (other : ℕ → ℕ) (was half buffers : List (List ℕ)) → FirstAdded places len part n was half
     → AddsAt places len (λ t p. within n (n + 1) t (other p)) half buffers → ((p : ℕ) → other p ≡ part n p) → FirstAdded places len part (n + 1) was buffers
 one_added_more places len n part other was half buffers so_far added same =
-    adds_more places len (λ t p. within 0 n t (part t p)) (λ t p. within n (n + 1) t (other p)) (λ t p. within 0 (n + 1) t (part t p)) was half buffers so_far added
-    (λ t p h fits.
-    ap (bit_xor (within 0 n t (part t p)))
-    (within_same n (n + 1) t (other p) (part t p) (λ low high. same p ∙ ap (λ m. part m p) (let e : n ≡ t = omega (arith, low, high) in e)))
-    ∙ within_joined 0 n (n + 1) t (part t p) (omega arith) (omega arith))
+    adds_range (λ t p. t) part 0 n (n + 1) so_far
+    (adds_same places len (λ t p. within n (n + 1) t (other p)) (λ t p. within n (n + 1) t (part t p)) half buffers added
+    (λ t p h fits. within_same n (n + 1) t (other p) (part t p) (λ low high. same p ∙ ap (λ m. part m p) (let e : n ≡ t = omega (arith, low, high) in e))))
+    (omega arith) (omega arith)
 
 pub all_added : (places : List Place) (len n : ℕ) (part : ℕ → ℕ → ℕ) (was buffers : List (List ℕ)) → length places ≡ n → FirstAdded places len part n was buffers → AddsAt places len part was buffers
-all_added places len n part was buffers count added =
-    adds_same places len (λ t p. within 0 n t (part t p)) part was buffers added (λ t p h fits. within-in 0 n t (part t p) (omega arith) (omega (arith, h, count)))
+all_added places len n part was buffers count added = adds_whole (λ t p. t) part n added (λ t p h fits. omega (arith, h, count))
 
 -- the part of a coset in the sums: those of its points
 abbrev pub coset_part : List ℕ → ℕ → ℕ → ℕ → ℕ → (ℕ → ℕ → ℕ) → ℕ → ℕ → ℕ
@@ -305,24 +299,25 @@ CosetsAdded places len numbers k at to given n was buffers =
     AddsAt places len (λ t p. within 0 (n * 2 ^ k) (get_or numbers t 0) (within at to p (given t p))) was buffers
 
 pub no_coset : (places : List Place) (len : ℕ) (numbers : List ℕ) (k at to : ℕ) (given : ℕ → ℕ → ℕ) (buffers : List (List ℕ)) → CosetsAdded places len numbers k at to given 0 buffers buffers
-no_coset places len numbers k at to given buffers =
-    adds_none places len (λ t p. within 0 (0 * 2 ^ k) (get_or numbers t 0) (within at to p (given t p))) buffers (λ t p. within-above 0 (0 * 2 ^ k) (get_or numbers t 0) (within at to p (given t p)) (omega arith))
+no_coset places len numbers k at to given buffers = adds_empty (λ t p. get_or numbers t 0) (λ t p. within at to p (given t p)) 0 (0 * 2 ^ k) (omega arith)
 
 pub next_coset : (places : List Place) (len : ℕ) (numbers : List ℕ) (k at to n : ℕ) (given : ℕ → ℕ → ℕ) (was half buffers : List (List ℕ)) → CosetsAdded places len numbers k at to given n was half
     → AddsAt places len (λ t p. in_coset numbers k n t (within at to p (given t p))) half buffers → CosetsAdded places len numbers k at to given (n + 1) was buffers
 next_coset places len numbers k at to n given was half buffers so_far added =
     let end : n * 2 ^ k + 2 ^ k ≡ (n + 1) * 2 ^ k = sym (add-mul n 1 (2 ^ k) ∙ ap (λ m. n * 2 ^ k + m) (one-mul (2 ^ k))) in
-    adds_more places len (λ t p. within 0 (n * 2 ^ k) (get_or numbers t 0) (part t p)) (λ t p. in_coset numbers k n t (part t p)) (λ t p. within 0 ((n + 1) * 2 ^ k) (get_or numbers t 0) (part t p)) was half buffers so_far added
-    (λ t p h fits.
-    within_joined 0 (n * 2 ^ k) (n * 2 ^ k + 2 ^ k) (get_or numbers t 0) (part t p) (omega arith) (omega arith)
-    ∙ ap (λ m. within 0 m (get_or numbers t 0) (part t p)) end)
-  where
-    part : ℕ → ℕ → ℕ
-    part t p = within at to p (given t p)
+    subst (λ m. AddsAt places len (λ t p. within 0 m (get_or numbers t 0) (within at to p (given t p))) was buffers) end
+    (adds_range (λ t p. get_or numbers t 0) (λ t p. within at to p (given t p)) 0 (n * 2 ^ k) (n * 2 ^ k + 2 ^ k) so_far added (omega arith) (omega arith))
 
 pub all_cosets : (places : List Place) (len : ℕ) (numbers : List ℕ) (k at to n : ℕ) (given : ℕ → ℕ → ℕ) (was buffers : List (List ℕ)) → k ≤ 16 → n ≡ 2 ^ (16 - k) → ((t : ℕ) → get_or numbers t 0 < 65536)
     → CosetsAdded places len numbers k at to given n was buffers → AddsAt places len (λ t p. within at to p (given t p)) was buffers
 all_cosets places len numbers k at to n given was buffers few is small added =
     let whole : n * 2 ^ k ≡ 65536 = ap (λ m. m * 2 ^ k) is ∙ sym (pow-add 2 (16 - k) k) ∙ ap (λ m. 2 ^ m) (let e : 16 - k + k ≡ 16 = omega (arith, few) in e) in
-    adds_same places len (λ t p. within 0 (n * 2 ^ k) (get_or numbers t 0) (within at to p (given t p))) (λ t p. within at to p (given t p)) was buffers added
-    (λ t p h fits. within-in 0 (n * 2 ^ k) (get_or numbers t 0) (within at to p (given t p)) (omega arith) (omega (arith, whole, small t)))
+    adds_whole (λ t p. get_or numbers t 0) (λ t p. within at to p (given t p)) (n * 2 ^ k) added (λ t p h fits. omega (arith, whole, small t))
+
+-- what `auto` is given for the code
+pub ruleset steps = (none_added_yet, shifted_most, no_first, are_whole, whole_apart, begins, columns_within, no_words)
+
+-- and what it is given for the locator and for cosets
+pub ruleset locating = (less_rows, shifted_most, columns_within, no_words, no_coset, wider_fit, none_added_yet, all_added, whole_apart, are_whole, none_named, next_named, all_named)
+
+pub ruleset fills = (no_first, next_first, one_times, words_at-lt)

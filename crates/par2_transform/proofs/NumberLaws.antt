@@ -1,6 +1,7 @@
 -- The numbers of slices by the exponents of their constants.
-use Rattle.par2_transform.proofs.Common.{inl, inr, ℕ, suc, ◌+◌, ◌<◌, ◌≤◌, ◌≡◌, refl, sym, ap, subst, ◌∙◌, arith, Bool, true, false, List, [], ◌∷◌, ◌++◌, length, get_or, length-append, if◌then◌else◌, cases_lt, get_or_append_left, get_or_at, get_or_past, get_or_default, is_coprime, word, list_at, words_at, AreNumbers, coprimes_below, word_at_power}
+use Rattle.par2_transform.proofs.Common.{inl, inr, ℕ, suc, ◌+◌, ◌<◌, ◌≤◌, ◌≡◌, refl, sym, ap, subst, ◌∙◌, arith, Bool, true, false, List, [], ◌∷◌, ◌++◌, length, get_or, length-append, if◌then◌else◌, cases_lt, get_or_append_left, get_or_at, get_or_past, get_or_default, is_coprime, word, list_at, words_at, AreNumbers, coprimes_below, word_at_power, length-map}
 use Rattle.par2_transform.proofs.CoprimeSums.{coprimes_below_all, coprimes_below-mono}
+use Rattle.par2_transform.proofs.AddingLaws.{zero_either_way}
 
 -- the entry that is pushed for an exponent
 abbrev pub number_of : ℕ → ℕ
@@ -96,13 +97,11 @@ bytes_found buffers numbers power number p bytes few are is found = elim (cases_
       ap (word p) found ∙ ap (λ k. word p (list_at buffers k)) (is ∙ get_or_default numbers power 65535 0 known ∙ are.each power known) ∙ by_bit (is_coprime power)
   | inr beyond ↦
       ap (word p) (found ∙ ap (list_at buffers) (is ∙ get_or_past numbers power 65535 beyond) ∙ get_or_past buffers 65535 [] (omega arith))
-      ∙ sym (nothing (is_coprime power) (words_at buffers p (coprimes_below power)) (ap (word p) (get_or_past buffers (coprimes_below power) [] (let m = coprimes_below-mono (length numbers) power beyond in let r = are.reach in omega (arith, m, r)))))
+      ∙ sym (zero_either_way (is_coprime power) (words_at buffers p (coprimes_below power)) (ap (word p) (get_or_past buffers (coprimes_below power) [] (let m = coprimes_below-mono (length numbers) power beyond in let r = are.reach in omega (arith, m, r)))))
 ]
   where
     by_bit : (b : Bool) → word p (list_at buffers (if b then coprimes_below power else 65535)) ≡ (if b then words_at buffers p (coprimes_below power) else 0)
     by_bit true = refl
     by_bit false = ap (word p) (get_or_past buffers 65535 [] (omega arith))
 
-    nothing : (b : Bool) (x : ℕ) → x ≡ 0 → (if b then x else 0) ≡ 0
-    nothing true x none = none
-    nothing false x none = refl
+pub ruleset slices_found = (length-map, bytes_found)

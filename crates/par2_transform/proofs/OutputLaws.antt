@@ -1,6 +1,6 @@
 -- From power sums in rows to the outputs of a block.
-use Rattle.par2_transform.proofs.Common.{inl, inr, ℕ, ◌+◌, ◌-◌, ◌*◌, ◌^◌, ◌<◌, ◌≤◌, ◌≡◌, sym, ap, ap₂, subst, ◌∙◌, arith, List, length, bit_xor, min, cases_lt, mul, pow, word, field_sum, field_sum_same, within, AddsAt, from_gathered, chirp_inverse, Grid, column, EachColumn, member, ArePowerSums, power_sum, point, Cut, Place}
-use Rattle.par2_transform.proofs.AddingLaws.{adds_none, adds_more, adds_same, within-in, within-below, within-above, within_joined, within_same}
+use Rattle.par2_transform.proofs.Common.{ℕ, ◌+◌, ◌-◌, ◌*◌, ◌^◌, ◌<◌, ◌≤◌, ◌≡◌, sym, ap, ap₂, subst, ◌∙◌, arith, List, length, bit_xor, min, mul, pow, word, field_sum, field_sum_same, within, AddsAt, from_gathered, chirp_inverse, Grid, column, EachColumn, member, ArePowerSums, power_sum, point, Cut, Place}
+use Rattle.par2_transform.proofs.AddingLaws.{adds_empty, adds_more, adds_same, within_cut, within_joined, within_same}
 
 -- the first coset's power sums are sums over the points
 pub power_sum_plain : (weight : ℕ → ℕ) (k e : ℕ) → power_sum k 0 weight e ≡ field_sum (2 ^ k) (λ u. mul (weight u) (pow (point u) e))
@@ -19,13 +19,7 @@ OutputsAdded places len cut sums e r from to first n was buffers =
     AddsAt places len (λ t p. within first (first + n) t (output_part cut sums e r from to first t p)) was buffers
 
 pub no_output : (places : List Place) (len : ℕ) (cut : Cut) (sums : Grid) (e r from to first : ℕ) (buffers : List (List ℕ)) → OutputsAdded places len cut sums e r from to first 0 buffers buffers
-no_output places len cut sums e r from to first buffers = adds_none places len (λ t p. within first (first + 0) t (output_part cut sums e r from to first t p)) buffers (λ t p. empty t (output_part cut sums e r from to first t p))
-  where
-    empty : (t x : ℕ) → within first (first + 0) t x ≡ 0
-    empty t x = elim (cases_lt t first) [
-      | inl below ↦ within-below first (first + 0) t x below
-      | inr above ↦ within-above first (first + 0) t x (omega arith)
-    ]
+no_output places len cut sums e r from to first buffers = adds_empty (λ t p. t) (output_part cut sums e r from to first) first (first + 0) (omega arith)
 
 pub next_output : (places : List Place) (len : ℕ) (cut : Cut) (was_sums sums : Grid) (e r from to first n factor : ℕ) (row : List ℕ) (was before buffers : List (List ℕ))
     → EachColumn (ArePowerSums was_sums.levels 0) was_sums sums → was_sums.levels ≡ cut.levels → n < 2 ^ cut.levels → to ≤ from + was_sums.words
@@ -57,16 +51,11 @@ next_output places len cut was_sums sums e r from to first n factor row was befo
 pub all_outputs : (places : List Place) (len : ℕ) (cut : Cut) (sums : Grid) (e r from to first size n : ℕ) (was buffers : List (List ℕ)) → n ≡ min size (length places - first)
     → OutputsAdded places len cut sums e r from to first n was buffers → OutputsAdded places len cut sums e r from to first size was buffers
 all_outputs places len cut sums e r from to first size n was buffers is added =
-    adds_same places len (λ t p. within first (first + n) t (part t p)) (λ t p. within first (first + size) t (part t p)) was buffers added (λ t p h fits. same t (part t p) h)
+    adds_same places len (λ t p. within first (first + n) t (part t p)) (λ t p. within first (first + size) t (part t p)) was buffers added
+    (λ t p h fits. within_cut first (first + n) (first + size) t (part t p) (λ l. omega (arith, is, l)) (λ l. omega (arith, is, l, h)))
   where
     part : ℕ → ℕ → ℕ
     part t p = output_part cut sums e r from to first t p
 
-    same : (t x : ℕ) → t < length places → within first (first + n) t x ≡ within first (first + size) t x
-    same t x h = elim (cases_lt t first) [
-      | inl below ↦ within-below first (first + n) t x below ∙ sym (within-below first (first + size) t x below)
-      | inr at_least ↦ elim (cases_lt t (first + size)) [
-        | inl low ↦ within-in first (first + n) t x at_least (omega (arith, is)) ∙ sym (within-in first (first + size) t x at_least low)
-        | inr high ↦ within-above first (first + n) t x (omega (arith, is)) ∙ sym (within-above first (first + size) t x high)
-      ]
-    ]
+-- what `auto` is given for the code
+pub ruleset steps = (no_output, all_outputs)

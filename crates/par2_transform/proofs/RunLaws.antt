@@ -5,7 +5,8 @@ use Rattle.par2_transform.specs.Combinations.{IsSplit, IsHalved, IsCombination}
 use Rattle.par2_transform.proofs.Subspaces.{point-lt}
 use Rattle.par2_transform.proofs.PowerSums.{first_half, second_half, vanishing_on, point_odd, merged_power_sums}
 use Rattle.par2_transform.proofs.CombinationLaws.{combined-lt, combined_same}
-use Rattle.par2_transform.proofs.StepLaws.{double_power, outside_then, run_fits, same_outside}
+use Rattle.par2_transform.proofs.StepLaws.{level_steps, double_power, outside_then, run_fits, same_outside}
+use Rattle.par2_transform.proofs.GridLaws.{each_unchanged}
 
 -- ---- numbers of runs
 
@@ -229,3 +230,6 @@ evaluated_run next i q number f g h fit fits split halves = record {
         ∙ ap (λ v. bit_xor (low x) (mul v (bit_xor (low x) (high x)))) one
         ∙ ap (bit_xor (low x)) once ∙ sym (xor_assoc (low x) (low x) (high x)) ∙ ap (λ v. bit_xor v (high x)) (xor_self (low x)) ∙ xor_zero_l (high x))
         ∙ ap (λ n. combined (suc i) (from start f) (point n)) (sym at)
+
+-- what `auto` is given for the code
+pub ruleset steps = (level_steps, each_unchanged, unchanged_run, sum_of_one)

@@ -337,3 +337,6 @@ lowered_at i c c2 start start2 m f g ec es lowered = subst (λ x. IsLowered i x 
 
 pub raised_at : (i c c2 start start2 : ℕ) (f g : ℕ → ℕ) → c ≡ c2 → start ≡ start2 → IsRaised i c start f g → IsRaised i c2 start2 f g
 raised_at i c c2 start start2 f g ec es raised = subst (λ x. IsRaised i x start2 f g) ec (subst (λ x. IsRaised i c x f g) es raised)
+
+-- what `auto` is given for the code
+pub ruleset level_steps = (shifted, shifts, double_power, power_below, run_starts, pair_places, pair_of_run, pair_kept, upper_to_lower, lower_to_upper, lower_start, run_start, run_next, one_written)

@@ -1,26 +1,11 @@
 -- Outputs that are a whole buffer each.
-use Rattle.par2_transform.proofs.Common.{Adds, Global, LieIn, Places, Vec, length-lists_of, lists_of, inl, inr, ℕ, ◌+◌, ◌*◌, ◌<◌, ◌≤◌, ◌≡◌, refl, sym, ap, ap₂, subst, ◌∙◌, arith, bit_xor, List, [], ◌∷◌, ◌++◌, length, drop, length-append, cases_lt, get_or_append_left, get_or_at, word, list_at, place_at, output_word, AddsAt, AddsToEach, AreApart, AreWholeBuffers, HaveWords, LieWithin, Place}
+use Rattle.par2_transform.proofs.Common.{Adds, Global, LieIn, Places, Vec, length-lists_of, lists_of, ℕ, ◌+◌, ◌*◌, ◌<◌, ◌≤◌, ◌≡◌, refl, sym, ap, ap₂, subst, ◌∙◌, arith, bit_xor, List, length, drop, word, list_at, place_at, output_word, AddsAt, AddsToEach, AreApart, AreWholeBuffers, HaveWords, LieWithin, Place, map, range_with_len, length-map-range_with_len, get_or-map-range_with_len, YieldsList-from_map, YieldsList-from_range, items_from_collect}
 
-pub no_bytes : AreWholeBuffers 0 []
-no_bytes = record { count = refl; each = λ t h. absurd (omega arith) }
-
-pub next_bytes : (n : ℕ) (places : List Place) → AreWholeBuffers n places → AreWholeBuffers (n + 1) (places ++ record { buffer = n; at = 0 } ∷ [])
-next_bytes n places so_far = record {
-  count = length-append places (place ∷ []) ∙ ap (λ k. k + 1) so_far.count;
-  each = λ t h. elim (cases_lt t n) [
-    | inl low ↦
-        subst (λ (x : Place). (x.buffer ≡ t) × (x.at ≡ 0)) (sym (get_or_append_left places (place ∷ []) none t (let e = so_far.count in omega (arith, e, low)))) (so_far.each t low)
-    | inr high ↦
-        (let same : t ≡ n = omega arith in
-        subst (λ (x : Place). (x.buffer ≡ t) × (x.at ≡ 0)) (sym (ap (place_at (places ++ place ∷ [])) same ∙ get_or_at places place [] none n so_far.count)) (sym same, refl))
-  ];
+pub are_whole_buffers : (n : ℕ) (places : List Place) → places ≡ map (λ t. record { buffer = t; at = 0 }) (range_with_len 0 n) → AreWholeBuffers n places
+are_whole_buffers n places is = record {
+  count = ap length is ∙ length-map-range_with_len (λ t. record { buffer = t; at = 0 }) 0 n;
+  each = λ t low. subst (λ (x : Place). (x.buffer ≡ t) × (x.at ≡ 0)) (sym (ap (λ (xs : List Place). place_at xs t) is ∙ get_or-map-range_with_len (λ t. record { buffer = t; at = 0 }) 0 n t t _ low (omega arith))) (refl, refl);
 }
-  where
-    none : Place
-    none = record { buffer = 0; at = 0 }
-
-    place : Place
-    place = record { buffer = n; at = 0 }
 
 pub whole_apart : (words count : ℕ) (places : List Place) → AreWholeBuffers count places → AreApart words places
 whole_apart words count places whole s t i k s_low t_low a b =
@@ -72,3 +57,5 @@ are_whole words outputs places buffers whole places_are words_are have =
       room = whole_within outputs.words outputs.places.now (lists_of buffers) all size;
       each = λ other new added. whole_added outputs.words other outputs.places.now (lists_of buffers) (lists_of new) all size added;
     }
+
+pub ruleset whole_tables = (YieldsList-from_map, YieldsList-from_range, items_from_collect, are_whole_buffers)

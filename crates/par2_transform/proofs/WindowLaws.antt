@@ -1,6 +1,9 @@
 -- From coefficients in rows to the sums that the windows of a class gather.
-use Rattle.par2_transform.proofs.Common.{inl, inr, ℕ, suc, ◌+◌, ◌-◌, ◌*◌, ◌^◌, ◌<◌, ◌≤◌, ◌≡◌, ◌≢◌, sym, ap, ap₂, subst, ◌∙◌, arith, List, length, bit_xor, cases_lt, cases_eq, xor_zero_l, xor_zero_r, mul, pow, zero-product, field_sum_same, field_sum_none, Outputs, Keeps, IsCleared, Gathers, GathersWindow, IsGathered, EachBlock, outputs_at, weight_at, HaveFirst, HaveShape, Plan, cut_of, AreBlocks, words_at, value, AreValues, Grid, column, IsAdded, EachColumn, point, Cut, coefficient_of, window_value, field_sum}
+use Rattle.par2_transform.proofs.Common.{ℕ, suc, ◌+◌, ◌-◌, ◌*◌, ◌^◌, ◌<◌, ◌≤◌, ◌≡◌, sym, ap, ap₂, subst, ◌∙◌, arith, List, length, bit_xor, xor_zero_r, mul, pow, zero-product, field_sum_same, field_sum_none, Outputs, Keeps, IsCleared, Gathers, GathersWindow, IsGathered, EachBlock, outputs_at, weight_at, HaveFirst, HaveShape, Plan, cut_of, AreBlocks, words_at, value, AreValues, Grid, column, EachColumn, point, Cut, coefficient_of, window_value, field_sum}
 use Rattle.par2_transform.proofs.Sums.{field_sum_join}
+use Rattle.par2_transform.proofs.BlockLaws.{kept_block}
+use Rattle.par2_transform.proofs.ColumnLaws.{still_fits}
+use Rattle.par2_transform.proofs.GridLaws.{no_first, next_first}
 
 -- ---- values
 
@@ -109,3 +112,6 @@ shape_kept plan slices r from n old blocks so_far shape j h =
 
 pub blocks_have_shape : (plan : Plan) (first size : ℕ) (blocks : List Outputs) → AreBlocks (cut_of plan) plan.columns first size blocks → HaveShape plan blocks
 blocks_have_shape plan first size blocks are j h = record { windows = (are j h).windows; levels = (are j h).levels; words = (are j h).words }
+
+-- what `auto` is given for the code
+pub ruleset steps = (blocks_have_shape, shape_kept, kept_block, still_fits, no_first, next_first)

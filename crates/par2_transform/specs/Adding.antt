@@ -2,11 +2,19 @@
 use Rattle.std.specs.Prelude.{ℕ, ◌≡◌, ◌<◌, ◌≤◌, ◌+◌, ◌-◌, ◌*◌, ◌&&◌, nat_le, nat_lt, bit_xor, List, length, drop, slice_index, slice_index_or, if◌then◌else◌}
 use Rattle.par2_spec.specs.Slices.{word}
 use Rattle.par2_spec.specs.Sums.{list_at}
+use Rattle.par2_spec.specs.Field.{mul}
+use Rattle.par2_transform.specs.declared.buffers.Multiplier.{Multiplier}
+use Rattle.par2_transform.specs.declared.buffers.Multiplier.TheVariants.{One, Factor}
 use Rattle.par2_transform.specs.declared.outputs.Place.{Place}
 
 -- x if p is from `from` up to `to`, and 0 otherwise
 abbrev pub within : ℕ → ℕ → ℕ → ℕ → ℕ
 within from to p x = if nat_le from p && nat_lt p to then x else 0
+
+-- an element, multiplied
+abbrev pub times : Multiplier → ℕ → ℕ
+times One = λ x. x
+times (Factor gf factor) = mul factor.now
 
 -- to word p of the buffer, `other p` is added
 pub record AddsTo (other : ℕ → ℕ) (old new : List ℕ) : Type 0 where

@@ -4,6 +4,7 @@ use Rattle.std.specs.Prelude.{ℕ, zero, suc, ◌≡◌, ◌<◌, ◌≤◌, ◌
 use Rattle.par2_spec.specs.Field.{mul, pow, is_coprime}
 use Rattle.par2_spec.specs.Sums.{field_sum, GivesElements}
 use Rattle.par2_transform.specs.Subspaces.{point}
+use Rattle.par2_transform.specs.Evaluations.{value}
 
 -- the sum of the numbers below n, a triangular number
 unfoldable pub triangle : ℕ → ℕ
@@ -20,10 +21,10 @@ unfoldable pub chirp_inverse : ℕ → ℕ → ℕ
 unfolding chirp pow
 chirp_inverse d m = pow (chirp d m) 65534
 
--- the inverses of the first n chirps of step d
-pub record AreInverses (d n : ℕ) (inverses : List ℕ) : Type 0 where
-  pub count : length inverses ≡ n
-  pub each : (m : ℕ) → m < n → slice_index inverses m ≡ chirp_inverse d m
+-- the list has the first n values of f
+pub record Tabulates (f : ℕ → ℕ) (n : ℕ) (values : List ℕ) : Type 0 where
+  pub count : length values ≡ n
+  pub each : (m : ℕ) → m < n → slice_index values m ≡ f m
 
 -- how many numbers below n are coprime to 65,535, and so exponents of slices' constants
 unfoldable pub coprimes_below : ℕ → ℕ
@@ -45,3 +46,39 @@ pub record AreWordsOfFirst (n : ℕ) (words : ℕ → ℕ) : Type 0 where
   pub few : n ≤ 32768
   pub none : (i : ℕ) → n ≤ i → words i ≡ 0
   pub fit : GivesElements words
+
+-- ---- a sum over slices by windows: their values at the points, and the weighted sum of these
+
+-- how a sum is cut: the exponents of constants in `classes` residue classes, `windows` windows of `window` numbers in
+-- each class, and 2 ^ `levels` points
+pub record Cut : Type 0 where
+  pub classes : ℕ
+  pub windows : ℕ
+  pub window : ℕ
+  pub levels : ℕ
+
+-- the cut covers the exponents of the constants of n slices
+abbrev pub Reaches : ℕ → Cut → Type 0
+Reaches n cut = n ≤ coprimes_below (cut.classes * (cut.windows * cut.window))
+
+-- number m of class r as a coefficient: the word of its slice, divided by chirp m
+abbrev pub coefficient_of : Cut → (ℕ → ℕ) → ℕ → ℕ → ℕ
+coefficient_of cut words r m = mul (chirp_inverse cut.classes m) (word_at_power words (cut.classes * m + r))
+
+-- the value of window a of class r at point u
+abbrev pub window_value : Cut → (ℕ → ℕ) → ℕ → ℕ → ℕ → ℕ
+window_value cut words r a u = value cut.window (λ m. coefficient_of cut words r (a * cut.window + m)) (point u)
+
+-- the sum of the values of all windows of class r at point u, each times its weight
+abbrev pub gathered : Cut → (ℕ → ℕ → ℕ) → (ℕ → ℕ) → ℕ → ℕ → ℕ
+gathered cut weights words r u = field_sum cut.windows (λ a. mul (weights a u) (window_value cut words r a u))
+
+-- the power sums of each window's weights are the chirps from the window's first number plus e on
+pub record HasWeights (cut : Cut) (e : ℕ) (weights : ℕ → ℕ → ℕ) : Type 0 where
+  pub fit : (a : ℕ) → GivesElements (weights a)
+  pub are : (a : ℕ) → a < cut.windows → AreWeights cut.levels (chirp cut.classes) (a * cut.window + e) (weights a)
+
+-- the part of class r in a word of the recovery slice of exponent e + t
+abbrev pub class_part : Cut → (ℕ → ℕ → ℕ) → (ℕ → ℕ) → ℕ → ℕ → ℕ → ℕ
+class_part cut weights words e t r =
+    mul (mul (pow 2 ((e + t) * r)) (chirp_inverse cut.classes (e + t))) (field_sum (2 ^ cut.levels) (λ u. mul (gathered cut weights words r u) (pow (point u) t)))

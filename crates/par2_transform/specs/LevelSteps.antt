@@ -4,8 +4,7 @@ use Rattle.std.specs.Int.{bit_at}
 use Rattle.par2_spec.specs.Field.{mul, pow}
 use Rattle.par2_spec.specs.Sums.{field_sum, GivesElements}
 use Rattle.par2_transform.specs.Adding.{within}
-use Rattle.par2_transform.specs.Subspaces.{powers_in}
-use Rattle.par2_transform.specs.PowerSums.{sum_ahead}
+use Rattle.par2_transform.specs.Subspaces.{powers_in, sum_ahead}
 use Rattle.par2_transform.specs.Evaluations.{value, from, AreZeroFrom}
 
 -- the values below a and from b on are unchanged

@@ -1,14 +1,10 @@
 pub mod Subspaces
-pub mod PowerSums
 pub mod Evaluations
-pub mod Cosets
 pub mod Combinations
 pub mod Chirps
-pub mod Transforms
 pub mod Grids
 pub mod LevelSteps
 pub mod Columns
-pub mod Plans
 pub mod Adding
 pub mod Blocks
 pub mod Outputs

@@ -8,8 +8,7 @@ use Rattle.par2_spec.specs.Sums.{field_sum, GivesElements}
 use Rattle.par2_transform.specs.Adding.{within}
 use Rattle.par2_transform.specs.Chirps.{AreWeights}
 use Rattle.par2_transform.specs.Columns.{words_at}
-use Rattle.par2_transform.specs.Combinations.{combined}
-use Rattle.par2_transform.specs.Cosets.{IsListed}
+use Rattle.par2_transform.specs.Combinations.{combined, IsListed}
 use Rattle.par2_transform.specs.Evaluations.{value, from}
 use Rattle.par2_transform.specs.Grids.{Grid, column}
 use Rattle.par2_transform.specs.Subspaces.{point}

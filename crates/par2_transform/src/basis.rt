@@ -1,8 +1,10 @@
 //! A Cantor basis of the field, its points, and the polynomials that vanish on its subspaces (Cantor 1989). Point u is
 //! the element to which row u of a transform belongs. Subspace i is the points below `2 ^ i`.
 
-ghost use Rattle.std.specs.Prelude.{◌≡◌, ◌<◌, slice_index};
-ghost use Rattle.par2_transform.specs.Subspaces.{basis, point, bit_numbers, point_number, powers_in};
+ghost use Rattle.std.specs.Int.{bit_at};
+ghost use Rattle.std.specs.Prelude.{◌≡◌, ◌*◌, ◌<◌, length, slice_index};
+ghost use Rattle.par2_spec.specs.Sums.{field_sum};
+ghost use Rattle.par2_transform.specs.Subspaces.{point, point_number, powers_in};
 
 // The elements of the basis: the first is 1, and each is the sum of the next one and its square.
 const BASIS: [u16; 16] = [
@@ -16,48 +18,32 @@ const BIT_NUMBERS: [u16; 16] = [
     0x62E, 0xECD8, 0x1E12, 0xFED4,
 ];
 
-// Basis element i.
-#[inline(always)]
-fn element(i: usize) -> u16
-    requires { i < 16 }
-    ensures { result ≡ slice_index basis i }
+// The sum of the elements of the table at the set bits of x.
+fn sum_at_bits(x: u16, table: &[u16]) -> u16
+    requires { length table.now ≡ 16 }
+    ensures { result ≡ field_sum 16 (λ i. bit_at x i * slice_index table.now i) }
 {
-    BASIS[i]
+    let mut sum = 0u16;
+    for i in 0..16 {
+        if (x >> i) % 2 == 1 {
+            sum ^= table[i];
+        }
+    }
+    sum
 }
 
 /// Point u: the sum of the basis elements at the set bits of u.
 pub(crate) fn point(u: u16) -> u16
     ensures { result ≡ point u }
 {
-    let mut sum = 0u16;
-    for i in 0..16 {
-        if (u >> i) % 2 == 1 {
-            sum ^= element(i);
-        }
-    }
-    sum
-}
-
-// The number of the point whose only set bit is bit i.
-#[inline(always)]
-fn bit_number(i: usize) -> u16
-    requires { i < 16 }
-    ensures { result ≡ slice_index bit_numbers i }
-{
-    BIT_NUMBERS[i]
+    sum_at_bits(u, &BASIS)
 }
 
 /// The number of the point that is the element x: the inverse of `point`. The locator needs it for the row of a root.
 pub(crate) fn point_number(x: u16) -> u16
     ensures { result ≡ point_number x }
 {
-    let mut sum = 0u16;
-    for i in 0..16 {
-        if (x >> i) % 2 == 1 {
-            sum ^= bit_number(i);
-        }
-    }
-    sum
+    sum_at_bits(x, &BIT_NUMBERS)
 }
 
 /// The powers of subspace polynomial i, which vanishes on subspace i and is a sum of powers `x ^ (2 ^ j)`. Bit j of the

@@ -1,16 +1,15 @@
 //! Blocks of outputs. A block gathers the weighted values of all windows of a class at the points, and turns them into
 //! outputs by power sums. For each class, `clear_all` resets the sums of all blocks, `gather_all` is called for each
 //! window, and `add_all` adds the outputs. Row u of the sums belongs to point u, and a column is a word of the outputs.
+#![tactic(auto, using(crate::proofs::BlockLaws::steps, crate::proofs::OutputLaws::steps))]
 
 ghost use Rattle.std.specs.Prelude.{◌≡◌, ℕ, ◌+◌, ◌*◌, ◌^◌, ◌<◌, ◌≤◌, length, slice_index, IfOk};
 ghost use Rattle.par2_spec.specs.Field.{mul, pow};
 ghost use Rattle.par2_spec.specs.Sums.{field_sum, list_at, lists_of};
-ghost use Rattle.par2_transform.specs.Blocks.{IsBlock, IsCleared, HasShape, RowsGathered, Gathers, Takes, Keeps, AreWeightRows, EachBlock, outputs_at, weight_at};
-ghost use Rattle.par2_transform.specs.Chirps.{chirp, chirp_inverse};
+ghost use Rattle.par2_transform.specs.Blocks.{IsBlock, IsCleared, HasShape, RowsGathered, Gathers, Takes, Keeps, AreWeightRows, EachBlock, outputs_at, weight_at, HaveShape, cut_of, part_from};
+ghost use Rattle.par2_transform.specs.Chirps.{chirp, chirp_inverse, Tabulates, HasWeights};
 ghost use Rattle.par2_transform.specs.Grids.{HasSize};
 ghost use Rattle.par2_transform.specs.Outputs.{Adds, Fit};
-ghost use Rattle.par2_transform.specs.Plans.{HaveShape, cut_of, part_from};
-ghost use Rattle.par2_transform.specs.Transforms.{HasWeights};
 
 use crate::levels::power_sums;
 use crate::outputs::Columns;
@@ -51,20 +50,17 @@ impl Model for Block {
 // The `2 ^ levels` chirps from chirp m on, of step `plan.classes`: the power sums that the weights of a window have.
 fn chirps(alloc: Global, gf: &Gf, plan: &Plan, m: u64) -> Result<Vec<u16>, AllocError>
     requires { m ≤ 2 ^ 40 }
-    ensures count { IfOk result (λ chirps. length chirps.items ≡ 2 ^ plan.now.levels) }
-    ensures each { IfOk result (λ chirps. (i : ℕ) → i < 2 ^ plan.now.levels
-        → slice_index chirps.items i ≡ chirp plan.now.classes (m + i)) }
+    ensures { IfOk result (λ chirps.
+        Tabulates (λ i. chirp plan.now.classes (m + i)) (2 ^ plan.now.levels) chirps.items) }
 {
-    let count = 1u64 << plan.levels;
-    let mut chirps = Vec::with_capacity(alloc, count as usize)?;
-    for i in 0..count {
-        chirps.push(chirp(gf, plan.classes as u64, m + i))?;
-    }
-    Ok(chirps)
+    (0..1u64 << plan.levels)
+        .map(|i| chirp(gf, plan.classes as u64, m + i))
+        .collect(alloc)
 }
 
 // For each window, the weights of the points whose power sums are the chirps from the window's first number plus
 // `exponent` on.
+#[tactic(auto, using(crate::proofs::WeightRows::steps))]
 fn window_weights(
     alloc: Global,
     gf: &Gf,

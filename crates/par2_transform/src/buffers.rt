@@ -1,11 +1,11 @@
-//! Sums of buffers, word by word. `Rows` adds rows by `add_words_within`, `add_products`, `add_products_within` and
-//! `butterfly_within`; `Columns::add` ends in `add_products`.
+//! Sums of buffers, word by word. `Rows` adds rows by `add_words`, `add_words_within` and `butterfly_within`;
+//! `Columns::add` ends in `add_words`.
 
 ghost use Rattle.std.specs.Prelude.{◌≡◌, ℕ, ◌+◌, ◌-◌, ◌*◌, ◌^◌, ◌<◌, ◌≤◌, length, slice_index};
 ghost use Rattle.par2_gf16.specs.Products.{AddsWords};
 ghost use Rattle.par2_spec.specs.Field.{mul};
 ghost use Rattle.par2_spec.specs.Slices.{word};
-ghost use Rattle.par2_transform.specs.Adding.{within, AddsBoth, AddsTo};
+ghost use Rattle.par2_transform.specs.Adding.{times, within, AddsBoth, AddsTo};
 ghost use Rattle.par2_transform.specs.Grids.{AreTwoRuns, CopiesWords};
 
 use par2_gf16::{Factor, Gf};
@@ -29,6 +29,7 @@ pub(crate) fn clear(bytes: &mut [u8])
 }
 
 /// Copies as many of the bytes as fit, and fills the rest of `to` with zeros.
+#[tactic(auto, using(crate::proofs::BufferLaws::padded_copy))]
 pub(crate) fn copy_padded(bytes: &[u8], to: &mut [u8])
     ensures size { length to.new ≡ length to.old }
     ensures same { (k : ℕ) → k < length to.old → slice_index to.new k ≡ slice_index bytes.now k }
@@ -60,77 +61,65 @@ fn add(src: &[u8], dst: &mut [u8])
     }
 }
 
-/// Adds the first words of `src` to words `from` up to `to` of the bytes: word k of `src` to word `from + k`.
-pub(crate) fn add_words(src: &[u8], bytes: &mut [u8], from: usize, to: usize)
-    requires order { from ≤ to }
-    requires source { 2 * to ≤ 2 * from + length src.now }
-    requires room { 2 * to ≤ length bytes.old }
-    ensures { AddsTo (λ p. within from to p (word (p - from) src.now)) bytes.old bytes.new }
-{
-    add(&src[..2 * (to - from)], &mut bytes[2 * from..2 * to]);
+/// What words are multiplied by before they are added. One is apart, because it needs no product.
+#[derive(Clone, Copy)]
+pub(crate) enum Multiplier<'a> {
+    One,
+    Factor(&'a Gf, &'a Factor),
 }
 
-/// Adds the factor times the first words of `src` to words `from` up to `to` of the bytes: word k to word `from + k`.
-pub(crate) fn add_products(
-    gf: &Gf,
-    factor: &Factor,
-    src: &[u8],
-    bytes: &mut [u8],
-    from: usize,
-    to: usize,
-)
-    requires order { from ≤ to }
-    requires source { 2 * to ≤ 2 * from + length src.now }
-    requires room { 2 * to ≤ length bytes.old }
-    ensures { AddsTo (λ p. within from to p (mul factor.now (word (p - from) src.now)))
-        bytes.old bytes.new }
-{
-    gf.mul_add_by(
-        factor,
-        &src[..2 * (to - from)],
-        &mut bytes[2 * from..2 * to],
-    );
-}
+impl<'a> Multiplier<'a> {
+    ghost use Rattle.std.specs.Prelude.{◌%◌, bit_xor};
 
-/// Adds the `count` words from word `from` on to those from word `to` on. The two ranges don't overlap.
-pub(crate) fn add_words_within(bytes: &mut [u8], from: usize, to: usize, count: usize)
-    requires { AreTwoRuns (length bytes.old) (2 * from) (2 * to) (2 * count) }
-    ensures { AddsTo (λ p. within to (to + count) p (word (from + (p - to)) bytes.old))
-        bytes.old bytes.new }
-{
-    if from < to {
-        let (front, back) = bytes.split_at_mut(2 * to);
-        add_words(&front[2 * from..], back, 0, count);
-    } else {
-        let (front, back) = bytes.split_at_mut(2 * from);
-        add_words(back, front, to, to + count);
+    // Adds each word of `src`, multiplied, to the word of `dst` at the same place.
+    fn add(self, src: &[u8], dst: &mut [u8])
+        requires same { length src.now ≡ length dst.old }
+        requires even { length dst.old % 2 ≡ 0 }
+        ensures size { length dst.new ≡ length dst.old }
+        ensures each { (p : ℕ) → 2 * p + 1 < length dst.old
+            → word p dst.new ≡ bit_xor (word p dst.old) (times self.entry (word p src.now)) }
+    {
+        match self {
+            Multiplier::One => add(src, dst),
+            Multiplier::Factor(gf, factor) => gf.mul_add_by(factor, src, dst),
+        }
     }
 }
 
-/// Adds the factor times the `count` words from word `from` on to those from word `to` on. The ranges don't overlap.
-pub(crate) fn add_products_within(
-    gf: &Gf,
-    factor: &Factor,
+/// Adds the first words of `src`, multiplied, to words `from` up to `to` of the bytes: word k to word `from + k`.
+pub(crate) fn add_words(by: Multiplier, src: &[u8], bytes: &mut [u8], from: usize, to: usize)
+    requires order { from ≤ to }
+    requires source { 2 * to ≤ 2 * from + length src.now }
+    requires room { 2 * to ≤ length bytes.old }
+    ensures { AddsTo (λ p. within from to p (times by.entry (word (p - from) src.now))) bytes.old bytes.new }
+{
+    by.add(&src[..2 * (to - from)], &mut bytes[2 * from..2 * to]);
+}
+
+/// Adds the `count` words from word `from` on, multiplied, to those from word `to` on. The two ranges don't overlap.
+pub(crate) fn add_words_within(
+    by: Multiplier,
     bytes: &mut [u8],
     from: usize,
     to: usize,
     count: usize,
 )
     requires { AreTwoRuns (length bytes.old) (2 * from) (2 * to) (2 * count) }
-    ensures { AddsTo (λ p. within to (to + count) p
-        (mul factor.now (word (from + (p - to)) bytes.old))) bytes.old bytes.new }
+    ensures { AddsTo (λ p. within to (to + count) p (times by.entry (word (from + (p - to)) bytes.old)))
+        bytes.old bytes.new }
 {
     if from < to {
         let (front, back) = bytes.split_at_mut(2 * to);
-        add_products(gf, factor, &front[2 * from..], back, 0, count);
+        add_words(by, &front[2 * from..], back, 0, count);
     } else {
         let (front, back) = bytes.split_at_mut(2 * from);
-        add_products(gf, factor, back, front, to, to + count);
+        add_words(by, back, front, to, to + count);
     }
 }
 
 /// The butterfly: adds the factor times the `count` words from word `high` on to those from word `low` on, and then these
 /// to those from word `high` on.
+#[tactic(auto, using(crate::proofs::BufferLaws::butterflies))]
 pub(crate) fn butterfly_within(
     gf: &Gf,
     factor: &Factor,

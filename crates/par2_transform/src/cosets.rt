@@ -3,7 +3,7 @@
 //! (`list`), and runs that contain none of them are not split.
 
 ghost use Rattle.std.specs.Prelude.{◌≡◌, ℕ, ◌+◌, ◌-◌, ◌*◌, ◌^◌, ◌<◌, ◌≤◌, length, slice_index, IfOk, IfSome, IsTrue};
-ghost use Rattle.par2_transform.specs.Cosets.{AreListedValues, IsListed, listed_by};
+ghost use Rattle.par2_transform.specs.Combinations.{AreListedValues, IsListed, listed_by};
 ghost use Rattle.par2_transform.specs.Evaluations.{AreValues};
 ghost use Rattle.par2_transform.specs.Grids.{EachColumn, IsRun};
 ghost use Rattle.par2_transform.specs.LevelSteps.{OneRun};

@@ -119,6 +119,7 @@ impl<'a> Slices<'a> {
     }
 
     /// The slice whose constant is 2 to this power, or an empty one if there is none.
+    #[tactic(auto, using(crate::proofs::NumberLaws::slices_found))]
     pub(crate) fn at_power(&self, power: usize) -> &[u8]
         ensures { (p : ℕ) → word p result.now ≡ word_at_power (words_at self.now p) power }
     {

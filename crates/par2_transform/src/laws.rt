@@ -2,10 +2,8 @@
 ghost use Rattle.std.specs.Prelude.{◌≡◌, ◌<◌, ◌≤◌, ℕ, ◌+◌, ◌*◌, ◌/◌, ◌^◌, bit_xor};
 ghost use Rattle.par2_spec.specs.Field.{mul, pow, coefficient};
 ghost use Rattle.par2_spec.specs.Sums.{field_sum};
-ghost use Rattle.par2_transform.specs.Subspaces.{point, vanishing};
-ghost use Rattle.par2_transform.specs.PowerSums.{sum_ahead};
-ghost use Rattle.par2_transform.specs.Chirps.{chirp, chirp_inverse, AreWordsOfFirst};
-ghost use Rattle.par2_transform.specs.Transforms.{Cut, Reaches, HasWeights, class_part};
+ghost use Rattle.par2_transform.specs.Subspaces.{point, vanishing, sum_ahead};
+ghost use Rattle.par2_transform.specs.Chirps.{chirp, chirp_inverse, AreWordsOfFirst, Cut, Reaches, HasWeights, class_part};
 
 /// Subspace polynomials (Cantor 1989): each is constant on every coset of its subspace, and is a sum of powers
 /// `x ^ (2 ^ j)`.

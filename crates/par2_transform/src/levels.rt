@@ -2,16 +2,18 @@
 //! sums), on all columns of words at once (Cantor 1989; Gao and Mateer 2010). Run q of level i is the `2 ^ i` rows from
 //! row `q * 2 ^ i` on, and belongs to a coset of subspace i. The transforms are recursions on runs: one half of a run is
 //! finished before the other one is begun, so that its rows stay in the caches.
+#![tactic(auto, using(crate::proofs::RunLaws::steps))]
 
 ghost use Rattle.std.specs.Prelude.{◌≤◌, ◌*◌, ◌^◌, suc};
 ghost use Rattle.par2_spec.specs.Field.{mul};
-ghost use Rattle.par2_transform.specs.Subspaces.{point};
-ghost use Rattle.par2_transform.specs.PowerSums.{ArePowerSums, IsMerged};
+ghost use Rattle.par2_transform.specs.Subspaces.{point, ArePowerSums, IsMerged};
 ghost use Rattle.par2_transform.specs.Combinations.{IsCombination, IsHalved, IsSplit};
 ghost use Rattle.par2_transform.specs.Grids.{AreTwoRuns, EachColumn, IsPair, IsRun};
 ghost use Rattle.par2_transform.specs.LevelSteps.{OneRun, RunAddedBy, AheadAdded, IsRaised, IsSpreadAbove, IsSpreadBelow};
 
 use crate::basis::{point, powers_in};
+use crate::buffers::Multiplier;
+use crate::buffers::Multiplier::One;
 use crate::rows::Rows;
 use par2_gf16::{Factor, Gf};
 
@@ -44,7 +46,7 @@ fn merge(gf: &Gf, rows: &mut Rows, i: u32, q: u16)
 {
     let half = 1usize << i;
     let start = q as usize * 2 * half;
-    rows.add_rows(start + half, start, half);
+    rows.add_rows(One, start + half, start, half);
     raise(gf, rows, i, start, point(2 * q));
 }
 
@@ -97,7 +99,7 @@ pub(crate) fn split(gf: &Gf, rows: &mut Rows, i: u32, q: u16, c: u16)
     let half = 1usize << i;
     let start = q as usize * 2 * half;
     if c == 0 {
-        rows.add_rows(start, start + half, half);
+        rows.add_rows(One, start, start + half, half);
     } else {
         rows.butterfly(gf, &Factor::new(c), start, start + half, half);
     }
@@ -109,7 +111,7 @@ fn add_scaled(gf: &Gf, rows: &mut Rows, c: u16, from: usize, to: usize, count: u
     ensures { EachColumn (RunAddedBy (mul c) from to count) rows.old rows.new }
 {
     if c != 0 {
-        rows.add_scaled_rows(gf, &Factor::new(c), from, to, count);
+        rows.add_rows(Multiplier::Factor(gf, &Factor::new(c)), from, to, count);
     }
 }
 
@@ -135,7 +137,7 @@ fn add_lower_ahead(rows: &mut Rows, i: u32, start: usize)
     let half = 1usize << i;
     for j in 0..i {
         if (powers >> j) % 2 == 1 {
-            rows.add_rows(start + (1 << j), start + half, half - (1 << j));
+            rows.add_rows(One, start + (1 << j), start + half, half - (1 << j));
         }
     }
 }
@@ -149,7 +151,7 @@ fn add_upper_ahead(rows: &mut Rows, i: u32, start: usize)
     let half = 1usize << i;
     for j in 0..i {
         if (powers >> j) % 2 == 1 {
-            rows.add_rows(start + half, start + 2 * half - (1 << j), 1 << j);
+            rows.add_rows(One, start + half, start + 2 * half - (1 << j), 1 << j);
         }
     }
 }
@@ -164,7 +166,7 @@ fn spread_above(rows: &mut Rows, i: u32, start: usize)
     let half = 1usize << i;
     for j in 0..i {
         if (powers >> j) % 2 == 1 {
-            rows.add_rows(start + 2 * half - (1 << j), start + half, 1 << j);
+            rows.add_rows(One, start + 2 * half - (1 << j), start + half, 1 << j);
         }
     }
 }
@@ -179,7 +181,7 @@ fn spread_below(rows: &mut Rows, i: u32, start: usize)
     let half = 1usize << i;
     for j in 0..i {
         if (powers >> j) % 2 == 1 {
-            rows.add_rows(start + half, start + (1 << j), half - (1 << j));
+            rows.add_rows(One, start + half, start + (1 << j), half - (1 << j));
         }
     }
 }

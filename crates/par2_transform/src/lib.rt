@@ -5,7 +5,7 @@
 //! `par2_create` and `par2_solve` use it, and it uses `par2_gf16`. It knows buffers of words, exponents and points,
 //! but no files, packets or checksums. The theorems that it rests on are contracts of functions with empty bodies, in
 //! `laws`.
-#![tactic(auto)]
+#![tactic(auto, using(crate::proofs::LocatorLaws::locating))]
 
 mod basis;
 mod blocks;

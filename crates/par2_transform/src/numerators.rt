@@ -2,10 +2,12 @@
 //! s times element s + t of a sequence. If the sequence has the coefficients of an error locator and the sources are
 //! syndromes, these sums are the coefficients of the numerator, Forney's error evaluator (Forney 1965), or
 //! right-hand sides of the locator's recurrence.
+#![tactic(auto, using(crate::proofs::LocatorLaws::steps))]
 
 ghost use Rattle.std.specs.Prelude.{◌≡◌, ℕ, ◌+◌, ◌^◌, ◌<◌, ◌≤◌, length, slice_index, IfOk};
 ghost use Rattle.par2_spec.specs.Sums.{list_at, lists_of, GivesElements};
 ghost use Rattle.par2_transform.specs.Adding.{AddsToEach, HaveWords};
+ghost use Rattle.par2_transform.specs.Chirps.{Tabulates};
 ghost use Rattle.par2_transform.specs.Columns.{byte_lists, words_at, AreByteLists};
 ghost use Rattle.par2_transform.specs.Locators.{AreNumerators, HaveFirst, IsWeighed};
 ghost use Rattle.par2_transform.specs.Outputs.{Adds, AddsIn, Fit, LieIn};
@@ -72,16 +74,11 @@ pub(crate) fn word_or_zero(words: &[u16], place: usize) -> u16
 }
 
 // The first `count` words, padded with zeros if there are fewer.
+#[tactic(auto, using(crate::proofs::BlockLaws::tables))]
 fn padded(alloc: Global, words: &[u16], count: usize) -> Result<Vec<u16>, AllocError>
-    ensures count { IfOk result (λ all. length all.items ≡ count) }
-    ensures each { IfOk result (λ all. (i : ℕ) → i < count
-        → slice_index all.items i ≡ slice_index words.now i) }
+    ensures { IfOk result (λ all. Tabulates (slice_index words.now) count all.items) }
 {
-    let mut all = Vec::with_capacity(alloc, count)?;
-    for i in 0..count {
-        all.push(word_or_zero(words, i))?;
-    }
-    Ok(all)
+    (0..count).map(|i| word_or_zero(words, i)).collect(alloc)
 }
 
 // The weights of the `2 ^ levels` points whose power sums are these words, padded with zeros.
@@ -106,6 +103,7 @@ fn source_at<'a>(sources: &[&'a [u8]], s: usize) -> &'a [u8]
 
 // Copies the words of source s, from word `from` on, to row s: as many as a row has, and zeros for those past the
 // source's end. The rows after the last source become zero.
+#[tactic(auto, using(crate::proofs::LocatorLaws::fills))]
 fn fill(gf: &Gf, sources: &[&[u8]], from: usize, rows: &mut Rows)
     requires { length sources.now ≤ 2 ^ rows.old.levels }
     ensures bytes { AreByteLists (byte_lists sources.now) }
@@ -191,6 +189,7 @@ impl<'a> Numerators<'a> {
     }
 
     // Adds the sums to the outputs, some columns at a time: as many as `room` bytes allow.
+    #[tactic(auto, using(crate::proofs::ColumnLaws::steps))]
     fn add_words(
         &self,
         alloc: Global,

@@ -1,10 +1,11 @@
 //! Outputs at their places inside buffers. A buffer may hold several outputs, with other bytes between them.
+#![tactic(auto, using(crate::proofs::AddingLaws::steps))]
 
 ghost use Rattle.std.specs.Prelude.{◌≡◌, ◌+◌, ◌-◌, ◌*◌, ◌<◌, ◌≤◌, length, min, take, drop};
 ghost use Rattle.par2_spec.specs.Sums.{OneChanged, list_at, lists_of};
 ghost use Rattle.par2_transform.specs.Adding.{within, place_at, AddsToPart, AreApart};
 
-use crate::buffers::add_products;
+use crate::buffers::{Multiplier, add_words};
 use par2_gf16::{Factor, Gf};
 
 /// Where an output lies: the number of its buffer, and its first byte there.
@@ -100,7 +101,8 @@ impl<'a> Columns<'a> {
             bytes.old bytes.new }
     {
         let output = &mut bytes[at..at + 2 * self.outputs.words];
-        add_products(gf, factor, row, output, self.from, self.to);
+        let by = Multiplier::Factor(gf, factor);
+        add_words(by, row, output, self.from, self.to);
     }
 
     // Adds to the output at this place, as `add_within` does. `OneChanged`: no other buffer changes.

@@ -1,5 +1,6 @@
 //! How a sum over slices is cut into classes, windows, blocks and columns. `outputs_at_once` limits the outputs of one
 //! transform, and `Plan::new` cuts their sums.
+#![tactic(auto, using(crate::proofs::StepLaws::level_steps))]
 
 ghost use Rattle.std.specs.Prelude.{◌≡◌, ◌+◌, ◌*◌, ◌^◌, ◌<◌, ◌≤◌};
 

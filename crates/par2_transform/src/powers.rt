@@ -18,6 +18,7 @@ pub(crate) fn power(gf: &Gf, n: u64) -> u16
 }
 
 /// Chirp m of step d: 2 to the power `d m (m - 1) / 2`. The step is the number of classes.
+#[tactic(auto, using(crate::proofs::Cycles::chirp_round))]
 pub(crate) fn chirp(gf: &Gf, d: u64, m: u64) -> u16
     requires { d ≤ 65536 }
     ensures { result ≡ chirp d m }

@@ -1,13 +1,13 @@
 //! Recovery slices, added to outputs inside buffers or to whole buffers. The outputs are computed in groups as large as
 //! memory allows, each by one transform (`add_group`) over all columns, some at a time (`add_words`).
+#![tactic(auto, using(crate::proofs::GroupLaws::steps))]
 
 ghost use Rattle.std.specs.Prelude.{◌+◌, ◌*◌, ◌^◌, ◌≤◌, length, IfOk};
 ghost use Rattle.par2_spec.specs.Sums.{lists_of};
 ghost use Rattle.par2_transform.specs.Adding.{AddsToEach, AreWholeBuffers, HaveWords};
-ghost use Rattle.par2_transform.specs.Blocks.{CoverOutputs};
+ghost use Rattle.par2_transform.specs.Blocks.{CoverOutputs, cut_of};
 ghost use Rattle.par2_transform.specs.Columns.{byte_lists, recovered};
 ghost use Rattle.par2_transform.specs.Outputs.{AddsSlices, LieIn};
-ghost use Rattle.par2_transform.specs.Plans.{cut_of};
 
 use crate::blocks::Block;
 use crate::exponents::Slices;
@@ -39,6 +39,7 @@ fn blocks_of(
 
 impl<'a> Windows<'a> {
     // Adds to output t the recovery slice of exponent `self.first + t`, some columns at a time.
+    #[tactic(auto, using(crate::proofs::ColumnLaws::steps))]
     fn add_words(
         &self,
         alloc: Global,
@@ -62,14 +63,13 @@ impl<'a> Windows<'a> {
 }
 
 /// The places of `count` outputs that are a whole buffer each: output t is buffer t.
+#[tactic(auto, using(crate::proofs::WholeBuffers::whole_tables))]
 pub fn whole_buffers(alloc: Global, count: usize) -> Result<Vec<Place>, AllocError>
     ensures { IfOk result (λ places. AreWholeBuffers count places.items) }
 {
-    let mut places = Vec::with_capacity(alloc, count)?;
-    for buffer in 0..count {
-        places.push(Place { buffer, at: 0 })?;
-    }
-    Ok(places)
+    (0..count)
+        .map(|buffer| Place { buffer, at: 0 })
+        .collect(alloc)
 }
 
 /// Computes recovery slices of these slices in about `room` bytes of memory beside the buffers, but at least about 100

@@ -1,16 +1,18 @@
 //! The rows of words that a transform works on, kept as bytes. Row u has the values of point u (or coefficient u), and
 //! each column of words is transformed by itself.
+#![tactic(auto, using(crate::proofs::GridLaws::steps))]
 
 ghost use Rattle.std.specs.Prelude.{◌≡◌, ℕ, ◌+◌, ◌*◌, ◌^◌, ◌<◌, ◌≤◌, length, IfOk};
 ghost use Rattle.par2_spec.specs.Field.{mul};
 ghost use Rattle.par2_spec.specs.Slices.{word};
 ghost use Rattle.par2_spec.specs.Sums.{GivesElements};
+ghost use Rattle.par2_transform.specs.Adding.{times};
 ghost use Rattle.par2_transform.specs.Grids.{column, AreCopied, AreTwoRuns, EachColumn, HasSize, IsAdded};
-ghost use Rattle.par2_transform.specs.LevelSteps.{RunAddedBy, RunAdded, IsButterfly};
+ghost use Rattle.par2_transform.specs.LevelSteps.{RunAddedBy, IsButterfly};
 
 use crate::buffers::{
-    add_products, add_products_within, add_words_within, butterfly_within, clear, copy_padded,
-    copy_words, fit_bytes,
+    Multiplier, add_words, add_words_within, butterfly_within, clear, copy_padded, copy_words,
+    fit_bytes,
 };
 use par2_gf16::{Factor, Gf};
 use std::alloc::{AllocError, Global};
@@ -113,14 +115,8 @@ impl Rows {
     {
         let (start, end) = (self.place(to), self.place(to + 1));
         copy_padded(bytes, self.source.as_mut_slice());
-        add_products(
-            gf,
-            factor,
-            &self.source,
-            self.bytes.as_mut_slice(),
-            start,
-            end,
-        );
+        let by = Multiplier::Factor(gf, factor);
+        add_words(by, &self.source, self.bytes.as_mut_slice(), start, end);
     }
 
     /// Adds the factor times row `from` of the other rows to row `to`.
@@ -138,39 +134,17 @@ impl Rows {
         ensures { IsAdded self.old self.new to (λ c. mul factor.now (column other.now c from)) }
     {
         let (start, end) = (self.place(to), self.place(to + 1));
-        add_products(
-            gf,
-            factor,
-            other.row(from),
-            self.bytes.as_mut_slice(),
-            start,
-            end,
-        );
+        let by = Multiplier::Factor(gf, factor);
+        add_words(by, other.row(from), self.bytes.as_mut_slice(), start, end);
     }
 
-    /// Adds the factor times the `count` rows from row `from` on to those from row `to` on. They don't overlap.
-    pub(crate) fn add_scaled_rows(
-        &mut self,
-        gf: &Gf,
-        factor: &Factor,
-        from: usize,
-        to: usize,
-        count: usize,
-    )
+    /// Adds the `count` rows from row `from` on, multiplied, to those from row `to` on. They don't overlap.
+    pub(crate) fn add_rows(&mut self, by: Multiplier, from: usize, to: usize, count: usize)
         requires { AreTwoRuns (2 ^ self.old.levels) from to count }
-        ensures { EachColumn (RunAddedBy (mul factor.now) from to count) self.old self.new }
+        ensures { EachColumn (RunAddedBy (times by.entry) from to count) self.old self.new }
     {
         let (from, to, count) = (self.place(from), self.place(to), self.place(count));
-        add_products_within(gf, factor, self.bytes.as_mut_slice(), from, to, count);
-    }
-
-    /// Adds the `count` rows from row `from` on to those from row `to` on. They don't overlap.
-    pub(crate) fn add_rows(&mut self, from: usize, to: usize, count: usize)
-        requires { AreTwoRuns (2 ^ self.old.levels) from to count }
-        ensures { EachColumn (RunAdded from to count) self.old self.new }
-    {
-        let (from, to, count) = (self.place(from), self.place(to), self.place(count));
-        add_words_within(self.bytes.as_mut_slice(), from, to, count);
+        add_words_within(by, self.bytes.as_mut_slice(), from, to, count);
     }
 
     /// The butterfly: adds the factor times the `count` rows from row `high` on to those from row `low` on, and then these

@@ -1,10 +1,10 @@
 //! The inverse of the transposed additive FFT: from power sums to the weights of the points that have them. It works on
 //! one column of words: `weigh_run`, `unmerge` and `lower` invert `sum_run`, `merge` and `raise`.
+#![tactic(auto, using(crate::proofs::RunLaws::steps))]
 
 ghost use Rattle.std.specs.Prelude.{◌≡◌, ◌<◌, ◌≤◌, ℕ, ◌+◌, ◌-◌, ◌*◌, ◌^◌, suc, length, slice_index};
 ghost use Rattle.par2_spec.specs.Sums.{GivesElements};
-ghost use Rattle.par2_transform.specs.Subspaces.{point};
-ghost use Rattle.par2_transform.specs.PowerSums.{ArePowerSums, IsMerged, sum_ahead};
+ghost use Rattle.par2_transform.specs.Subspaces.{point, ArePowerSums, IsMerged, sum_ahead};
 ghost use Rattle.par2_transform.specs.Chirps.{AreWeights};
 ghost use Rattle.par2_transform.specs.LevelSteps.{OneRun, RunAdded, IsLowered};
 

@@ -1,16 +1,15 @@
 //! Sums over slices, by classes and windows of the exponents of their constants. With d classes, exponent `d * m + r`
 //! is number m of class r, and window a is `window` consecutive numbers. `add_classes` takes a block of columns: for
 //! each class it evaluates each window at the points, gathers the values in the blocks, and adds the blocks' outputs.
+#![tactic(auto, using(crate::proofs::WindowLaws::steps))]
 
 ghost use Rattle.std.specs.Prelude.{◌≡◌, ◌+◌, ◌-◌, ◌*◌, ◌^◌, ◌<◌, ◌≤◌, length, IfOk};
-ghost use Rattle.par2_transform.specs.Blocks.{EachBlock, GathersWindow, IsGathered, class_sum_at};
-ghost use Rattle.par2_transform.specs.Chirps.{chirp_inverse, AreInverses};
+ghost use Rattle.par2_transform.specs.Blocks.{EachBlock, GathersWindow, IsGathered, class_sum_at, AreReady, HaveShapes, cut_of};
+ghost use Rattle.par2_transform.specs.Chirps.{chirp_inverse, Tabulates, Reaches, coefficient_of};
 ghost use Rattle.par2_transform.specs.Columns.{byte_lists, words_at, recovered, AreByteLists};
 ghost use Rattle.par2_transform.specs.Grids.{HasSize, IsAdded};
 ghost use Rattle.par2_transform.specs.Locators.{HaveFirst};
 ghost use Rattle.par2_transform.specs.Outputs.{AddsIn, Fit};
-ghost use Rattle.par2_transform.specs.Plans.{AreReady, HaveShapes, cut_of};
-ghost use Rattle.par2_transform.specs.Transforms.{Reaches, coefficient_of};
 
 use crate::blocks::{Block, add_all, clear_all, gather_all};
 use crate::cosets::values_at_points;
@@ -24,15 +23,14 @@ use std::alloc::{AllocError, Global};
 
 // The inverses of the first n chirps of step d (see `powers`): the slice of number m in a class is multiplied by the
 // inverse of number m.
+#[tactic(auto, using(crate::proofs::BlockLaws::tables))]
 fn inverse_chirps(alloc: Global, gf: &Gf, d: usize, n: usize) -> Result<Vec<u16>, AllocError>
     requires { d ≤ 65536 }
-    ensures { IfOk result (λ inverses. AreInverses d n inverses.items) }
+    ensures { IfOk result (λ inverses. Tabulates (chirp_inverse d) n inverses.items) }
 {
-    let mut inverses = Vec::with_capacity(alloc, n)?;
-    for m in 0..n {
-        inverses.push(chirp_inverse(gf, d as u64, m as u64))?;
-    }
-    Ok(inverses)
+    (0..n)
+        .map(|m| chirp_inverse(gf, d as u64, m as u64))
+        .collect(alloc)
 }
 
 /// Slices, and the plan by which their sums are cut.
@@ -46,7 +44,7 @@ pub(crate) struct Windows<'a> {
     ghost few: { length slices ≤ 32768 },
     ghost bytes: { AreByteLists slices },
     ghost reaches: { Reaches (length slices) (cut_of plan) },
-    ghost inverted: { AreInverses plan.classes (plan.windows * plan.window) inverses.items },
+    ghost inverted: { Tabulates (chirp_inverse plan.classes) (plan.windows * plan.window) inverses.items },
 }
 
 impl<'a> Windows<'a> {

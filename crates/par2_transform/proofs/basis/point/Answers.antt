@@ -1,23 +1,6 @@
-use Rattle.par2_transform.proofs.Common.{◌≡◌, ◌*◌, sym, ap, ◌∙◌, arith, bit_xor, refl, slice_index, bit_at, basis, point, field_sum}
-use Rattle.par2_transform.proofs.Sums.{field_sum_bit_set, field_sum_bit_unset}
-use Rattle.par2_transform.proofs.basis.point.Goals.{then-u-i-eq1, else-u-i-eq1}
+use Rattle.par2_transform.proofs.Common.{basis, point}
 use Rattle.par2_transform.proofs.basis.point.Goals as goal
 
-pub loop-i-init : goal.loop-i-init
-unfolding field_sum
-loop-i-init c = refl
-
-pub loop-i-preserved : goal.loop-i-preserved
-loop-i-preserved c =
-    let i = c.loop-i.i in
-    let u = c.args.u in
-    elim c.if-u-i-eq1.branch [
-      | then-u-i-eq1 w ↦ w.sum-is ∙ ap (λ s. bit_xor s w.element-sum.result) c.loop-i.invariant ∙ ap (bit_xor _) w.element-sum.ensures ∙ sym (field_sum_bit_set i u (slice_index basis) w.if-u-i-eq1.true)
-      | else-u-i-eq1 w ↦ w.sum-is ∙ c.loop-i.invariant ∙ sym (field_sum_bit_unset i u (slice_index basis) w.if-u-i-eq1.false)
-    ]
-
 pub returns : goal.returns
-unfolding point
-returns c =
-    let end : c.loop-i.i ≡ 16 = omega arith in
-    c.loop-i.invariant ∙ ap (λ n. field_sum n (λ j. bit_at c.args.u j * slice_index basis j)) end
+unfolding point basis
+returns c = c.sum_at_bits.ensures

@@ -1,27 +1,9 @@
-use Rattle.par2_transform.proofs.Common.{◌<◌, ◌≤◌, ◌*◌, ◌∙◌, arith, length, mul-le-mul_right, subst, sym, lists_of, AddsAt, HasShape, Keeps, cut_of}
-use Rattle.par2_transform.proofs.ColumnLaws.{still_fits}
+use Rattle.par2_transform.proofs.Common.{◌<◌, arith, length, subst, lists_of, AddsAt, Keeps, cut_of}
 use Rattle.par2_transform.proofs.BlockLaws.{block_part, is_block_at, none_added, next_added, one_set}
 use Rattle.par2_transform.proofs.blocks.add_all.Goals as goal
 
 pub loop-j-init : goal.loop-j-init
 loop-j-init c = none_added c.args.columns.now.outputs.places.now c.args.columns.now.outputs.words (cut_of c.args.class.now.plan) c.args.class.now.plan.block c.args.class.now.number c.args.columns.now.from c.args.columns.now.to c.args.blocks.now (lists_of c.args.buffers.now)
-
-pub overflow_mul-j : goal.overflow_mul-j
-overflow_mul-j c =
-    let block = c.args.class.now.plan.block in
-    let more : c.loop-j.j * block ≤ length c.args.blocks.now * block = mul-le-mul_right block (omega arith) in
-    omega (arith, more, c.requires.few)
-
-pub add_to-requires : goal.add_to-requires
-add_to-requires c =
-    let plan = c.args.class.now.plan in
-    let j = c.loop-j.j in
-    let so_far = c.loop-j.invariant in
-    let low : j < length c.loop-j.blocks = omega (arith, so_far.kept.count, c.loop-j-test.true) in
-    record {
-      shape = subst (HasShape (cut_of plan) plan.columns) (sym (is_block_at c.loop-j.blocks j c.index-blocks-j.result low ∙ so_far.kept.rest j (omega arith))) (c.requires.shape j (omega (arith, so_far.kept.count, low)));
-      fits = still_fits plan.columns c.args.columns.now _ c.args.buffers.now c.loop-j.buffers so_far.added c.requires.fits;
-    }
 
 pub loop-j-preserved : goal.loop-j-preserved
 loop-j-preserved c =

@@ -1,11 +1,12 @@
-use Rattle.par2_transform.proofs.Common.{◌+◌, sym, subst, chirp}
-use Rattle.par2_transform.proofs.BlockLaws.{Tabulates, no_value, next_value}
+use Rattle.par2_transform.proofs.Common.{rules, arith, ◌≡◌, ◌-◌, YieldsList-from_map, YieldsList-from_range, items_from_collect, IfOk-weaker, ℕ, ◌+◌, ◌*◌, ◌%◌, ◌^◌, subst, chirp, Tabulates}
+use Rattle.par2_transform.proofs.LocatorLaws.{shifted_most}
+use Rattle.par2_transform.proofs.BlockLaws.{tabulated}
 use Rattle.par2_transform.proofs.blocks.chirps.Goals as goal
 
-pub loop-i-init : goal.loop-i-init
-loop-i-init c = subst (Tabulates (λ j. chirp c.args.plan.now.classes (c.args.m + j)) 0) (sym c.in_ok-chirps.ensures.items) (no_value (λ j. chirp c.args.plan.now.classes (c.args.m + j)))
-
-pub loop-i-preserved : goal.loop-i-preserved
-loop-i-preserved c =
-    subst (Tabulates (λ j. chirp c.args.plan.now.classes (c.args.m + j)) (c.loop-i.i + 1)) (sym c.in_ok-push.ensures.items)
-    (next_value (λ j. chirp c.args.plan.now.classes (c.args.m + j)) c.loop-i.i c.chirp.result c.loop-i.chirps.items c.loop-i.invariant c.chirp.ensures)
+pub returns : goal.returns
+returns c =
+    let plan = c.args.plan.now in
+    let n = 1 * 2 ^ plan.levels % 18446744073709551616 in
+    let f = λ (i : ℕ). chirp plan.classes (c.args.m + i) in
+    IfOk-weaker c.collect.result _ _ (λ v is. subst (λ k. Tabulates f k v.items) (shifted_most plan.levels plan.few_levels) (tabulated f n v.items is))
+    (items_from_collect c.collect.result c.collect.ensures.ran (YieldsList-from_map _ f (YieldsList-from_range 0 n n (cc) (let e : n - 0 ≡ n = omega arith in e)) c.map.ensures.closure (λ x r q k. search rules)))

@@ -1,9 +1,6 @@
-use Rattle.par2_transform.proofs.Common.{rules, ◌≡◌, ◌∙◌, ◌+◌, ◌*◌, ◌^◌, ◌≤◌, ◌++◌, ◌∷◌, [], ℕ, List, sym, ap, subst, arith, length, get_or, mul-le-mul_right, map-append, with_items_is, with_items, lists_of, length-lists_of, chirp, cut_of}
-use Rattle.par2_transform.proofs.WeightRows.{WindowsWeighed, none_weighed, next_weighed, weight_rows, windows_weighed}
+use Rattle.par2_transform.proofs.Common.{rules, ◌≡◌, ◌∙◌, ◌+◌, ◌*◌, ◌^◌, ◌++◌, ◌∷◌, [], ℕ, List, sym, ap, subst, length, get_or, map-append, with_items_is, with_items, lists_of, chirp, cut_of}
+use Rattle.par2_transform.proofs.WeightRows.{WindowsWeighed, next_weighed}
 use Rattle.par2_transform.proofs.blocks.window_weights.Goals as goal
-
-pub loop-a-init : goal.loop-a-init
-loop-a-init c = subst (λ xs. WindowsWeighed (cut_of c.args.plan.now) c.args.exponent 0 (lists_of xs)) (sym c.in_ok-all.ensures.items) (none_weighed (cut_of c.args.plan.now) c.args.exponent)
 
 pub loop-a-preserved : goal.loop-a-preserved
 loop-a-preserved c =
@@ -19,32 +16,3 @@ loop-a-preserved c =
     subst (WindowsWeighed cut c.args.exponent (a + 1)) (sym items)
     (next_weighed cut c.args.exponent a (lists_of all) words c.loop-a.invariant count c.weights.ensures.elements
     (c.weights.ensures.are (chirp cut.classes) (a * cut.window + c.args.exponent) (λ e h. ap (λ xs. get_or xs e 0) c.as_mut_slice.ensures.value ∙ c.in_ok-words.ensures.each e h)))
-
-pub returns-clause-count : goal.returns-clause-count
-returns-clause-count c =
-    let end : c.loop-a.a ≡ c.args.plan.now.windows = omega (arith, c.loop-a-test.false, c.loop-a.auto.a-end) in
-    sym (length-lists_of c.loop-a.all.items) ∙ c.loop-a.invariant.count ∙ end
-
-pub returns-clause-rows : goal.returns-clause-rows
-returns-clause-rows c = weight_rows (cut_of c.args.plan.now) c.args.exponent c.loop-a.a (lists_of c.loop-a.all.items) c.loop-a.invariant
-
-pub returns-clause-has : goal.returns-clause-has
-returns-clause-has c =
-    let cut = cut_of c.args.plan.now in
-    let end : c.loop-a.a ≡ cut.windows = omega (arith, c.loop-a-test.false, c.loop-a.auto.a-end) in
-    windows_weighed cut c.args.exponent (lists_of c.loop-a.all.items) (subst (λ n. WindowsWeighed cut c.args.exponent n (lists_of c.loop-a.all.items)) end c.loop-a.invariant)
-
-pub chirps-requires : goal.chirps-requires
-chirps-requires c =
-    let plan = c.args.plan.now in
-    let most : c.loop-a.a * plan.window ≤ plan.windows * plan.window = mul-le-mul_right plan.window (let low = c.loop-a-test.true in omega (arith, low)) in
-    omega (arith, most, plan.few_numbers, c.requires)
-
-pub overflow_mul-a : goal.overflow_mul-a
-overflow_mul-a c =
-    let plan = c.args.plan.now in
-    let most : c.loop-a.a * plan.window ≤ plan.windows * plan.window = mul-le-mul_right plan.window (let low = c.loop-a-test.true in omega (arith, low)) in
-    omega (arith, most, plan.few_numbers)
-
-pub weights-requires-clause-count : goal.weights-requires-clause-count
-weights-requires-clause-count c = ap (λ (xs : List ℕ). length xs) c.as_mut_slice.ensures.value ∙ c.in_ok-words.ensures.count

@@ -1,4 +1,4 @@
-use Rattle.par2_transform.proofs.Common.{ℕ, suc, ◌+◌, ◌-◌, ◌*◌, ◌^◌, ◌<◌, ◌≡◌, ◌∙◌, sym, subst, arith, point, AreListedValues, EachColumn, Grid, OneRun, column, from, listed_by}
+use Rattle.par2_transform.proofs.Common.{ℕ, suc, ◌+◌, ◌-◌, ◌*◌, ◌^◌, ◌≡◌, ◌∙◌, subst, arith, point, AreListedValues, EachColumn, Grid, OneRun, column, from, listed_by}
 use Rattle.std.proofs.lemmas.Bool.{false≢true}
 use Rattle.par2_transform.specs.Combinations.{IsSplit}
 use Rattle.par2_transform.proofs.GridLaws.{each_of, each_unchanged}

@@ -1,4 +1,4 @@
-use Rattle.par2_transform.proofs.Common.{suc, ◌+◌, ◌-◌, ◌*◌, ◌%◌, ◌^◌, ◌<◌, ◌≡◌, ◌∙◌, sym, ap, subst, arith, EachColumn, OneRun, column, from}
+use Rattle.par2_transform.proofs.Common.{suc, ◌+◌, ◌-◌, ◌*◌, ◌%◌, ◌^◌, ◌≡◌, ◌∙◌, ap, subst, arith, EachColumn, OneRun, column, from}
 use Rattle.par2_transform.specs.Combinations.{IsCombination, IsHalved}
 use Rattle.par2_transform.proofs.GridLaws.{each_of, each_unchanged}
 use Rattle.par2_transform.proofs.StepLaws.{shifted}

@@ -1,6 +1,6 @@
-use Rattle.par2_transform.proofs.Common.{suc, ◌+◌, ◌-◌, ◌*◌, ◌^◌, ◌<◌, ◌≡◌, sym, subst, arith, point, ArePowerSums, EachColumn, IsMerged, OneRun, column, from}
-use Rattle.par2_transform.proofs.GridLaws.{each_of, each_unchanged}
-use Rattle.par2_transform.proofs.RunLaws.{BothHalves, both_halves, lower_half, run_in_field, run_kept, upper_half, sum_of_one, summed_run, sums_of_first, unchanged_run}
+use Rattle.par2_transform.proofs.Common.{suc, ◌+◌, ◌-◌, ◌*◌, ◌^◌, ◌≡◌, subst, arith, point, ArePowerSums, EachColumn, IsMerged, OneRun, column}
+use Rattle.par2_transform.proofs.GridLaws.{each_of}
+use Rattle.par2_transform.proofs.RunLaws.{BothHalves, both_halves, lower_half, run_in_field, run_kept, upper_half, summed_run, sums_of_first}
 use Rattle.par2_transform.proofs.levels.+sum_run.Goals as goal
 
 pub returns-then-i-gt0 : goal.returns-then-i-gt0
@@ -20,14 +20,6 @@ returns-then-i-gt0 t c =
     (λ d one two. both_halves i q (ArePowerSums i (2 * q)) (ArePowerSums i (2 * q + 1)) (sums_of_first i (2 * q)) (sums_of_first i (2 * q + 1)) (column a d) (column c.sum_run.new.rows d) (column c.sum_run-then-i-gt0.new.rows d) one two))
     c.merge.ensures
     (λ d one two. summed_run i q (column a d) (column c.sum_run-then-i-gt0.new.rows d) (column c.merge.new.rows d) (c.fit.ensures d) fits one two))
-
-pub returns-else-i-gt0 : goal.returns-else-i-gt0
-returns-else-i-gt0 t c =
-    let none : 0 ≡ c.args.i = omega (arith, c.if-i-gt0.false) in
-    let q = c.args.q in
-    let a = c.args.rows.now in
-    subst (λ n. EachColumn (OneRun (q * 2 ^ n) (2 ^ n) (ArePowerSums n q)) a a) none
-    (each_unchanged (OneRun (q * 2 ^ 0) (2 ^ 0) (ArePowerSums 0 q)) a (λ d. unchanged_run (q * 2 ^ 0) (2 ^ 0) (ArePowerSums 0 q) (column a d) (sum_of_one q (from (q * 2 ^ 0) (column a d)) (c.fit.ensures d _))))
 
 pub sum_run-requires : goal.sum_run-requires
 sum_run-requires t c = (omega (arith, c.decreases, c.if-i-gt0.true), lower_half c.args.rows.now.levels c.args.i c.args.q c.if-i-gt0.true c.requires)

@@ -1,4 +1,4 @@
-use Rattle.par2_transform.proofs.Common.{suc, ◌+◌, ◌-◌, ◌*◌, ◌%◌, ◌^◌, ◌<◌, ◌≡◌, inl, inr, subst, arith, EachColumn, RunAdded, AheadAdded}
+use Rattle.par2_transform.proofs.Common.{suc, ◌+◌, ◌-◌, ◌*◌, ◌%◌, ◌^◌, ◌<◌, inl, inr, arith, RunAdded, AheadAdded}
 use Rattle.par2_transform.proofs.StepLaws.{shifts, run_at, ahead_start, ahead_set, ahead_unset, ahead_whole}
 use Rattle.par2_transform.proofs.GridLaws.{each_start, each_then, each_so}
 use Rattle.par2_transform.proofs.levels.add_upper_ahead.Goals.{then-powers-j-eq1, else-powers-j-eq1}
@@ -29,17 +29,3 @@ loop-j-preserved c =
           (each_so (AheadAdded i start (2 ^ i) (2 ^ suc i) l.j) (AheadAdded i start (2 ^ i) (2 ^ suc i) (l.j + 1)) c.args.rows.now l.rows l.invariant
           (λ f g first. ahead_unset i start (2 ^ i) (2 ^ suc i) l.j f g (rw (← is) w.if-powers-j-eq1.false) first))
     ]
-
-pub returns : goal.returns
-returns c =
-    let l = c.loop-j in
-    let end : l.j ≡ c.args.i = omega arith in
-    subst (λ n. EachColumn (AheadAdded c.args.i c.args.start (2 ^ c.args.i) (2 ^ suc c.args.i) n) c.args.rows.now l.rows) end l.invariant
-
-pub overflow_sub-start : goal.overflow_sub-start
-overflow_sub-start c = omega (arith, shifts c.args.i c.loop-j.j (omega arith) (omega arith))
-
-pub add_rows-requires : goal.add_rows-requires
-add_rows-requires c =
-    let places = shifts c.args.i c.loop-j.j (omega arith) (omega arith) in
-    rw c.loop-j.invariant.levels (record { from = omega (arith, places, c.requires.fits); to = omega (arith, places, c.requires.fits); apart = inl (omega (arith, places)) })

@@ -1,6 +1,6 @@
 use Rattle.par2_transform.proofs.Common.{suc, ◌*◌, ◌%◌, ◌^◌, ◌≡◌, ◌≤◌, ◌<◌, ap, subst, ◌∙◌, arith, EachColumn, IsSpreadAbove, IsSpreadBelow, OneRun, column}
 use Rattle.par2_transform.specs.Combinations.{IsHalved}
-use Rattle.par2_transform.proofs.StepLaws.{shifted, pair_of_run, pair_kept, run_starts}
+use Rattle.par2_transform.proofs.StepLaws.{shifted, run_starts}
 use Rattle.par2_transform.proofs.Divisions.{halved_runs, short_runs}
 use Rattle.par2_transform.proofs.GridLaws.{each_of, each_unchanged}
 use Rattle.par2_transform.proofs.levels.halve.Goals as goal
@@ -28,9 +28,3 @@ returns-else-count-half c =
     let few : c.args.count ≤ 2 ^ i = omega (arith, half, c.if-count-half.false) in
     let a = c.args.rows.now in
     each_unchanged (OneRun (c.args.q * 2 ^ suc i) (2 ^ suc i) (IsHalved c.args.count i)) a (λ k. short_runs c.args.count i (c.args.q * 2 ^ suc i) (column a k) few)
-
-pub spread_above-requires : goal.spread_above-requires
-spread_above-requires c = pair_of_run c.args.rows.now.levels c.args.i c.args.q c.requires
-
-pub spread_below-requires : goal.spread_below-requires
-spread_below-requires c = pair_kept c.spread_above.ensures.levels (pair_of_run c.args.rows.now.levels c.args.i c.args.q c.requires)

@@ -1,5 +1,5 @@
 use Rattle.par2_transform.proofs.Common.{suc, ◌+◌, ◌*◌, ◌%◌, ◌^◌, ◌≡◌, ap, ◌∙◌, arith, point, IsMerged, OneRun, RunAdded, IsRaised}
-use Rattle.par2_transform.proofs.StepLaws.{shifted, pair_of_run, pair_kept, upper_to_lower, run_starts, merged_runs, run_at, raised_at}
+use Rattle.par2_transform.proofs.StepLaws.{shifted, run_starts, merged_runs, run_at, raised_at}
 use Rattle.par2_transform.proofs.GridLaws.{each_then}
 use Rattle.par2_transform.proofs.levels.merge.Goals as goal
 
@@ -16,9 +16,3 @@ returns c =
     (λ f g h first second. merged_runs i (point (2 * q)) start f g h
     (run_at (q * 2 * shift + shift) (start + 2 ^ i) (q * 2 * shift) start shift (2 ^ i) f g (omega arith) is half first)
     (raised_at i c.point.result (point (2 * q)) (q * 2 * shift) start g h c.point.ensures is second))
-
-pub add_rows-requires : goal.add_rows-requires
-add_rows-requires c = upper_to_lower c.args.rows.now.levels c.args.i _ (pair_of_run c.args.rows.now.levels c.args.i c.args.q c.requires)
-
-pub raise-requires : goal.raise-requires
-raise-requires c = pair_kept c.add_rows.ensures.levels (pair_of_run c.args.rows.now.levels c.args.i c.args.q c.requires)

@@ -1,5 +1,5 @@
-use Rattle.par2_transform.proofs.Common.{suc, ◌+◌, ◌*◌, ◌%◌, ◌^◌, ◌≡◌, ◌∙◌, refl, arith, mul, RunAddedBy, AheadAdded, IsRaised}
-use Rattle.par2_transform.proofs.StepLaws.{pair_kept, lower_to_upper, shifted, run_by_at, raised_runs}
+use Rattle.par2_transform.proofs.Common.{suc, ◌+◌, ◌*◌, ◌%◌, ◌^◌, ◌≡◌, refl, arith, mul, RunAddedBy, AheadAdded, IsRaised}
+use Rattle.par2_transform.proofs.StepLaws.{shifted, run_by_at, raised_runs}
 use Rattle.par2_transform.proofs.GridLaws.{each_then_two}
 use Rattle.par2_transform.proofs.levels.raise.Goals as goal
 
@@ -12,12 +12,3 @@ returns c =
     c.args.rows.now c.add_scaled.new.rows c.add_lower_ahead.new.rows c.add_upper_ahead.new.rows c.add_scaled.ensures c.add_lower_ahead.ensures c.add_upper_ahead.ensures
     (λ f g k h first second third. raised_runs i c.args.c start f g k h
     (run_by_at (mul c.args.c) start start (start + 1 * 2 ^ i % 18446744073709551616) (start + 2 ^ i) (1 * 2 ^ i % 18446744073709551616) (2 ^ i) f g refl (omega (arith, half)) half first) second third)
-
-pub add_scaled-requires : goal.add_scaled-requires
-add_scaled-requires c = lower_to_upper c.args.rows.now.levels c.args.i c.args.start c.requires
-
-pub add_lower_ahead-requires : goal.add_lower_ahead-requires
-add_lower_ahead-requires c = pair_kept c.add_scaled.ensures.levels c.requires
-
-pub add_upper_ahead-requires : goal.add_upper_ahead-requires
-add_upper_ahead-requires c = pair_kept (c.add_lower_ahead.ensures.levels ∙ c.add_scaled.ensures.levels) c.requires

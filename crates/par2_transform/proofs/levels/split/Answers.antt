@@ -1,6 +1,6 @@
 use Rattle.par2_transform.proofs.Common.{ℕ, suc, ◌+◌, ◌*◌, ◌%◌, ◌^◌, ◌<◌, ◌≡◌, ap, sym, subst, ◌∙◌, arith, mul, zero-product, GivesElements, Grid, EachColumn, OneRun, RunAdded, IsButterfly, column}
 use Rattle.par2_transform.specs.Combinations.{IsSplit}
-use Rattle.par2_transform.proofs.StepLaws.{shifted, pair_places, pair_of_run, lower_to_upper, run_starts, run_none, butterfly_runs, butterfly_at}
+use Rattle.par2_transform.proofs.StepLaws.{shifted, run_starts, run_none, butterfly_runs, butterfly_at}
 use Rattle.par2_transform.proofs.CombinationLaws.{split_runs}
 use Rattle.par2_transform.proofs.GridLaws.{each_so}
 use Rattle.par2_transform.proofs.levels.split.Goals as goal
@@ -21,9 +21,6 @@ all_split i q c a b few small fit both = record {
       (butterfly_at (mul c) (q * 2 * half i) (q * 2 ^ suc i) (q * 2 * half i + half i) (q * 2 ^ suc i + 2 ^ i) (half i) (2 ^ i) (column a k) (column b k) is (omega (arith, is, is_half)) is_half (both.columns k h));
 }
 
-pub butterfly-requires-clause-high : goal.butterfly-requires-clause-high
-butterfly-requires-clause-high c = omega (arith, pair_places c.args.rows.now.levels c.args.i c.args.q (omega arith) c.requires.level c.requires.run)
-
 -- products with 0 add nothing to the lower half
 pub returns-then-c-eq0 : goal.returns-then-c-eq0
 returns-then-c-eq0 c =
@@ -37,6 +34,3 @@ returns-then-c-eq0 c =
 pub returns-else-c-eq0 : goal.returns-else-c-eq0
 returns-else-c-eq0 c =
     all_split c.args.i c.args.q c.args.c c.args.rows.now c.butterfly.new.self (omega arith) c.ranges.c.fits c.fit.ensures (rw c.new.ensures at c.butterfly.ensures)
-
-pub add_rows-requires : goal.add_rows-requires
-add_rows-requires c = lower_to_upper c.args.rows.now.levels c.args.i _ (pair_of_run c.args.rows.now.levels c.args.i c.args.q c.requires)

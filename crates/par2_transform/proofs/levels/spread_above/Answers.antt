@@ -1,4 +1,4 @@
-use Rattle.par2_transform.proofs.Common.{◌+◌, ◌-◌, ◌*◌, ◌%◌, ◌^◌, ◌<◌, ◌≡◌, inr, subst, arith, EachColumn, RunAdded, IsSpreadAbove}
+use Rattle.par2_transform.proofs.Common.{◌+◌, ◌-◌, ◌*◌, ◌%◌, ◌^◌, ◌<◌, arith, RunAdded, IsSpreadAbove}
 use Rattle.par2_transform.proofs.StepLaws.{shifts, run_at}
 use Rattle.par2_transform.proofs.Divisions.{above_start, above_set, above_unset}
 use Rattle.par2_transform.proofs.GridLaws.{each_start, each_then, each_so}
@@ -27,17 +27,3 @@ loop-j-preserved c =
           (each_so (IsSpreadAbove i start l.j) (IsSpreadAbove i start (l.j + 1)) c.args.rows.now l.rows l.invariant
           (λ f g first. above_unset i start l.j f g (rw (← is) w.if-powers-j-eq1.false) first))
     ]
-
-pub returns : goal.returns
-returns c =
-    let l = c.loop-j in
-    let end : l.j ≡ c.args.i = omega arith in
-    subst (λ n. EachColumn (IsSpreadAbove c.args.i c.args.start n) c.args.rows.now l.rows) end l.invariant
-
-pub overflow_sub-start : goal.overflow_sub-start
-overflow_sub-start c = omega (arith, shifts c.args.i c.loop-j.j (omega arith) (omega arith))
-
-pub add_rows-requires : goal.add_rows-requires
-add_rows-requires c =
-    let places = shifts c.args.i c.loop-j.j (omega arith) (omega arith) in
-    rw c.loop-j.invariant.levels (record { from = omega (arith, places, c.requires.fits); to = omega (arith, places, c.requires.fits); apart = inr (omega (arith, places)) })

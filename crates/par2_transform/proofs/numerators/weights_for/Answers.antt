@@ -1,9 +1,6 @@
-use Rattle.par2_transform.proofs.Common.{rules, ℕ, List, ◌≡◌, ◌<◌, ◌∙◌, sym, ap, subst, length, with_items_is, IsWeighed}
+use Rattle.par2_transform.proofs.Common.{rules, ◌≡◌, ◌<◌, ◌∙◌, sym, subst, length, with_items_is, IsWeighed}
 use Rattle.par2_transform.proofs.LocatorLaws.{shifted_most, weighed_by}
 use Rattle.par2_transform.proofs.numerators.weights_for.Goals as goal
-
-pub weights-requires-clause-count : goal.weights-requires-clause-count
-weights-requires-clause-count c = ap (λ (xs : List ℕ). length xs) c.as_mut_slice.ensures.value ∙ c.in_ok-all.ensures.count ∙ shifted_most c.args.levels c.requires.few
 
 pub returns : goal.returns
 returns c =

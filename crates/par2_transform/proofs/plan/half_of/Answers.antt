@@ -1,14 +1,6 @@
-use Rattle.par2_transform.proofs.Common.{suc, ◌*◌, ◌%◌, ◌≡◌, ◌≤◌, ◌^◌, ◌-◌, ◌+◌, ap, arith, pow_mono}
-use Rattle.par2_transform.proofs.StepLaws.{shifted, double_power}
+use Rattle.par2_transform.proofs.Common.{◌*◌, ◌%◌, ◌≡◌, ◌≤◌, ◌^◌, ◌-◌, arith, pow_mono}
+use Rattle.par2_transform.proofs.StepLaws.{shifted}
 use Rattle.par2_transform.proofs.plan.half_of.Goals as goal
-
-pub returns-clause-half : goal.returns-clause-half
-returns-clause-half c =
-    let i = c.args.levels - 1 in
-    let half : 1 * 2 ^ i % 18446744073709551616 ≡ 2 ^ i = shifted i (let most = c.requires.1 in omega (arith, most)) in
-    let whole : 2 ^ suc i ≡ 2 ^ c.args.levels = ap (λ n. 2 ^ n) (let some = c.requires.0 in omega (arith, some)) in
-    let double : 2 ^ suc i ≡ 2 ^ i + 2 ^ i = double_power i in
-    omega (arith, half, whole, double)
 
 pub returns-clause-bounds : goal.returns-clause-bounds
 returns-clause-bounds c =

@@ -1,4 +1,4 @@
-use Rattle.par2_transform.proofs.Common.{◌≡◌, ◌+◌, ◌*◌, ◌^◌, ◌<◌, ◌≤◌, ◌∙◌, refl, sym, subst, arith, length, pow_mono, div_ceil_times, slice_begins, cut_of}
+use Rattle.par2_transform.proofs.Common.{◌≡◌, ◌+◌, ◌*◌, ◌^◌, ◌<◌, ◌≤◌, ◌∙◌, refl, sym, subst, arith, length, pow_mono, div_ceil_times, cut_of}
 use Rattle.par2_transform.proofs.BlockLaws.{BlocksMade, next_block}
 use Rattle.par2_transform.proofs.recovery.blocks_of.Goals as goal
 
@@ -8,24 +8,6 @@ loop-j-preserved c =
     let j = c.loop-j.j in
     subst (BlocksMade (cut_of plan) plan.columns c.args.first plan.block (j + 1)) (sym c.in_ok-push.ensures.items)
     (next_block (cut_of plan) plan.columns c.args.first plan.block j (c.args.first + j * plan.block) c.loop-j.blocks.items c.in_ok-new.field-0 c.loop-j.invariant c.in_ok-new.ensures refl)
-
-pub new-requires : goal.new-requires
-new-requires c =
-    let block = c.args.plan.now.block in
-    let low = slice_begins c.args.count block c.loop-j.j (let some = c.args.plan.now.some.1.0 in omega (arith, some)) (subst (λ n. c.loop-j.j < n) c.div_ceil-j-end.ensures c.loop-j-test.true) in
-    omega (arith, low, c.requires)
-
-pub overflow_mul-j : goal.overflow_mul-j
-overflow_mul-j c =
-    let block = c.args.plan.now.block in
-    let low = slice_begins c.args.count block c.loop-j.j (let some = c.args.plan.now.some.1.0 in omega (arith, some)) (subst (λ n. c.loop-j.j < n) c.div_ceil-j-end.ensures c.loop-j-test.true) in
-    omega (arith, low)
-
-pub overflow_add-first : goal.overflow_add-first
-overflow_add-first c =
-    let block = c.args.plan.now.block in
-    let low = slice_begins c.args.count block c.loop-j.j (let some = c.args.plan.now.some.1.0 in omega (arith, some)) (subst (λ n. c.loop-j.j < n) c.div_ceil-j-end.ensures c.loop-j-test.true) in
-    omega (arith, low, c.requires)
 
 pub returns : goal.returns
 returns c =

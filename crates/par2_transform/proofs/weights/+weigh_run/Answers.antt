@@ -1,6 +1,6 @@
-use Rattle.par2_transform.proofs.Common.{ℕ, suc, ◌+◌, ◌-◌, ◌*◌, ◌^◌, ◌<◌, ◌≡◌, sym, subst, arith, rules, length, slice_index, ArePowerSums, OneRun, from}
+use Rattle.par2_transform.proofs.Common.{ℕ, suc, ◌+◌, ◌-◌, ◌*◌, ◌^◌, ◌<◌, ◌≡◌, sym, subst, arith, rules, length, slice_index, ArePowerSums, OneRun}
 use Rattle.par2_transform.proofs.PowerSums.{first_half, second_half}
-use Rattle.par2_transform.proofs.RunLaws.{both_halves, halves_below, run_in_field, sum_of_one, sums_of_first, unchanged_run, weighed_run}
+use Rattle.par2_transform.proofs.RunLaws.{both_halves, halves_below, run_in_field, sums_of_first, weighed_run}
 use Rattle.par2_transform.proofs.StepLaws.{double_power}
 use Rattle.par2_transform.proofs.weights.+weigh_run.Goals as goal
 
@@ -37,11 +37,3 @@ returns-then-i-gt0-clause-weights t c =
     (weighed_run i q f g h c.fit_words-then-i-gt0.ensures (run_in_field 16 c.args.i q (omega arith) c.if-i-gt0.true c.requires.level c.requires.run) c.unmerge.ensures
     (both_halves i q (flipped (2 * q)) (flipped (2 * q + 1)) (λ f f2 g g2 sf sg. sums_of_first i (2 * q) g g2 f f2 sg sf) (λ f f2 g g2 sf sg. sums_of_first i (2 * q + 1) g g2 f f2 sg sf) g k h
     c.weigh_run.ensures.weights c.weigh_run-then-i-gt0.ensures.weights))
-
-pub returns-else-i-gt0-clause-weights : goal.returns-else-i-gt0-clause-weights
-returns-else-i-gt0-clause-weights t c =
-    let none : 0 ≡ c.args.i = omega (arith, c.if-i-gt0.false) in
-    let q = c.args.q in
-    let f = slice_index c.args.words.now in
-    subst (λ n. OneRun (q * 2 ^ n) (2 ^ n) (λ sums weights. ArePowerSums n q weights sums) f f) none
-    (unchanged_run (q * 2 ^ 0) (2 ^ 0) (λ sums weights. ArePowerSums 0 q weights sums) f (sum_of_one q (from (q * 2 ^ 0) f) (c.fit_words.ensures _)))

@@ -1,11 +1,6 @@
 use Rattle.par2_transform.proofs.Common.{ℕ, suc, ◌+◌, ◌-◌, ◌*◌, ◌%◌, ◌^◌, ◌<◌, ◌≡◌, sym, subst, ap, ap₂, arith, length, bit_xor, slice_index, mul, sum_ahead, IsLowered}
-use Rattle.par2_transform.proofs.StepLaws.{shifted, double_power, lower_start, lower_next, one_written, one_same}
+use Rattle.par2_transform.proofs.StepLaws.{shifted, double_power, lower_next, one_written, one_same}
 use Rattle.par2_transform.proofs.weights.lower.Goals as goal
-
-pub loop-e-init : goal.loop-e-init
-loop-e-init c =
-    let half : 1 * 2 ^ c.args.i % 18446744073709551616 ≡ 2 ^ c.args.i = shifted c.args.i (omega arith) in
-    lower_start c.args.i c.args.c c.args.start (1 * 2 ^ c.args.i % 18446744073709551616) (slice_index c.args.words.now) (omega arith)
 
 pub loop-e-preserved : goal.loop-e-preserved
 loop-e-preserved c =
@@ -26,9 +21,3 @@ loop-e-preserved c =
     lower_next i k start m (slice_index c.args.words.now) before _ low (subst (λ n. IsLowered i k start n (slice_index c.args.words.now) before) (sym now) l.invariant)
     (one_same to (start + 2 ^ i + m) besides (bit_xor (mul k (before (start + m))) (sum_ahead i before (start + m))) before _ (ap (λ n. start + n + m) half)
     (ap₂ bit_xor c.mul.ensures c.sum_ahead.ensures) (one_written l.words to besides fits))
-
-pub returns : goal.returns
-returns c =
-    let l = c.loop-e in
-    let end : l.e ≡ 0 = omega arith in
-    subst (λ n. IsLowered c.args.i c.args.c c.args.start n (slice_index c.args.words.now) (slice_index l.words)) end l.invariant

@@ -1,6 +1,6 @@
-use Rattle.par2_transform.proofs.Common.{ℕ, ◌+◌, ◌*◌, ◌%◌, ◌^◌, ◌≤◌, ◌≡◌, refl, sym, ap, ◌∙◌, arith, bit_xor, slice_index, powers_in, field_sum}
+use Rattle.par2_transform.proofs.Common.{ℕ, ◌+◌, ◌*◌, ◌%◌, ◌^◌, ◌≡◌, refl, sym, ap, ◌∙◌, arith, bit_xor, slice_index, powers_in, field_sum}
 use Rattle.par2_transform.proofs.Sums.{field_sum_bit_set, field_sum_bit_unset}
-use Rattle.par2_transform.proofs.StepLaws.{shifted, power_below, ahead_below}
+use Rattle.par2_transform.proofs.StepLaws.{shifted}
 use Rattle.par2_transform.proofs.weights.sum_ahead.Goals.{then-powers-j-eq1, else-powers-j-eq1}
 use Rattle.par2_transform.proofs.weights.sum_ahead.Goals as goal
 
@@ -17,19 +17,6 @@ loop-j-preserved c =
       | else-powers-j-eq1 w ↦ w.sum-is ∙ l.invariant ∙ sym (field_sum_bit_unset l.j (powers_in i) (λ j. f (at + 2 ^ j)) (rw (← is) w.if-powers-j-eq1.false))
     ]
 
-pub returns : goal.returns
-returns c =
-    let l = c.loop-j in
-    let end : l.j ≡ c.args.i = omega arith in
-    l.invariant ∙ ap (λ n. ahead_below c.args.i c.args.at n (slice_index c.args.words.now)) end
-
 pub loop-j-init : goal.loop-j-init
 unfolding field_sum
 loop-j-init c = refl
-
-pub bounds-words-at : goal.bounds-words-at
-bounds-words-at c =
-    let l = c.loop-j in
-    let part : 1 * 2 ^ l.j % 18446744073709551616 ≡ 2 ^ l.j = shifted l.j (omega arith) in
-    let under : 2 ^ l.j + 2 ^ l.j ≤ 2 ^ c.args.i = power_below l.j c.args.i (omega arith) in
-    omega (arith, c.requires.fits)

@@ -1,10 +1,6 @@
-use Rattle.par2_transform.proofs.Common.{ℕ, suc, ◌+◌, ◌*◌, ◌%◌, ◌^◌, ◌<◌, ◌≡◌, ap, ◌∙◌, arith, rules, length, slice_index, point}
-use Rattle.par2_transform.proofs.StepLaws.{shifted, double_power, run_starts, unmerged_runs, run_at, lowered_at}
+use Rattle.par2_transform.proofs.Common.{ℕ, suc, ◌+◌, ◌*◌, ◌%◌, ◌^◌, ◌≡◌, ap, ◌∙◌, arith, slice_index, point}
+use Rattle.par2_transform.proofs.StepLaws.{shifted, run_starts, unmerged_runs, run_at, lowered_at}
 use Rattle.par2_transform.proofs.weights.unmerge.Goals as goal
-
--- the positions of a pair, as the code computes them
-places : (i q : ℕ) → i < 16 → (1 * 2 ^ i % 18446744073709551616 ≡ 2 ^ i) × (q * 2 * (1 * 2 ^ i % 18446744073709551616) ≡ q * 2 ^ suc i) × (2 ^ suc i ≡ 2 ^ i + 2 ^ i)
-places i q few = (shifted i few, ap (λ n. q * 2 * n) (shifted i few) ∙ run_starts i q, double_power i)
 
 pub returns : goal.returns
 returns c =
@@ -20,13 +16,3 @@ returns c =
     unmerged_runs i (point (2 * q)) start old mid new
     (lowered_at i c.point.result (point (2 * q)) (q * 2 * shift) start 0 old mid c.point.ensures is c.lower.ensures)
     (run_at (q * 2 * shift + shift) (start + 2 ^ i) (q * 2 * shift) start shift (2 ^ i) mid new (omega arith) is half c.add_run.ensures)
-
-pub overflow_mul-q : goal.overflow_mul-q
-overflow_mul-q c = omega (arith, places c.args.i c.args.q c.requires.level, c.requires.fits)
-
-pub lower-requires-clause-fits : goal.lower-requires-clause-fits
-lower-requires-clause-fits c = omega (arith, places c.args.i c.args.q c.requires.level, c.requires.fits)
-
-pub add_run-requires-clause-from : goal.add_run-requires-clause-from
-add_run-requires-clause-from c =
-    let size : length c.lower.new.words ≡ length c.args.words.now = search rules in omega (arith, size, places c.args.i c.args.q c.requires.level, c.requires.fits)

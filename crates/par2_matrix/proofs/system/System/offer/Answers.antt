@@ -1,4 +1,4 @@
-use Rattle.par2_matrix.proofs.Common.{◌≡◌, ◌<◌, ◌+◌, ℕ, List, length, arith, rules, refl, sym, ap, ◌∙◌, subst, with_items, with_items_is, Equations, CutDown, IsIndependent, IsDependent, echelon, echelon_of, IsReduced, system_of, lists_of, length-lists_of}
+use Rattle.par2_matrix.proofs.Common.{◌≡◌, ◌+◌, ℕ, List, length, rules, refl, sym, ap, ◌∙◌, subst, with_items, with_items_is, Equations, CutDown, IsIndependent, IsDependent, echelon, echelon_of, IsReduced, system_of, lists_of, length-lists_of}
 use Rattle.par2_matrix.proofs.Offering.{IsTaken, offered}
 use Rattle.par2_matrix.proofs.Promises.{cuts, determines, follows}
 use Rattle.par2_matrix.proofs.system.System.offer.Goals as goal
@@ -37,11 +37,6 @@ taken c =
 columns_stay : (c : goal.After-self-3-1) → length (with_items c.self.inside.rows c.put_in.new.rows).items ≡ length c.self.inside.rows.items
 columns_stay c = sym (length-lists_of _) ∙ (taken c).reduced.row_count
 
-pub overflow_add-self : goal.overflow_add-self
-overflow_add-self c =
-    let room : c.self.inside.rank < length c.self.inside.rows.items = rw (c.self.invariant.rank, ← c.deref.ensures.value) c.in-Some.ensures.room in
-    omega arith
-
 pub invariant_of-self : goal.invariant_of-self
 invariant_of-self c =
     let s = c.self.inside in
@@ -70,9 +65,3 @@ returns-in_default-clause-dependent c is =
     subst (λ (old : Equations). IsDependent old c.args.row.now) c.self.view_is
     (follows _ c.self.invariant c.args.row.now c.in_ok-row.row.items c.in_ok-row.ensures size
     (rw (c.deref.ensures.value, c.deref_mut.ensures.value) at (c.in_default.ensures.none refl)))
-
-pub returns-clause-columns : goal.returns-clause-columns
-returns-clause-columns c = columns_stay c ∙ ap (λ (e : Equations). e.columns) c.self.view_is
-
-pub returns-clause-bytes : goal.returns-clause-bytes
-returns-clause-bytes c = ap (λ (e : Equations). e.bytes) c.self.view_is

@@ -1,13 +1,6 @@
-use Rattle.par2_transform.proofs.Common.{arith, ◌∙◌, ◌≡◌, ◌+◌, ◌-◌, ◌*◌, ◌<◌, ◌≤◌, ◌^◌, ap, subst, length, min, mul, pow, lists_of, Outputs, chirp_inverse, EachColumn, ArePowerSums, cut_of}
-use Rattle.par2_transform.proofs.AddingLaws.{still_within}
-use Rattle.par2_transform.proofs.OutputLaws.{no_output, next_output, all_outputs}
+use Rattle.par2_transform.proofs.Common.{arith, ◌∙◌, ◌≡◌, ◌+◌, ◌*◌, ◌<◌, ◌≤◌, ◌^◌, ap, subst, mul, pow, lists_of, Outputs, chirp_inverse, EachColumn, ArePowerSums, cut_of}
+use Rattle.par2_transform.proofs.OutputLaws.{next_output}
 use Rattle.par2_transform.proofs.blocks.Block.add_to.Goals as goal
-
-pub loop-t-init : goal.loop-t-init
-loop-t-init c = no_output c.args.columns.now.outputs.places.now c.args.columns.now.outputs.words (cut_of c.args.class.now.plan) c.args.self.now.sums c.args.self.now.exponent c.args.class.now.number c.args.columns.now.from c.args.columns.now.to c.args.first (lists_of c.args.buffers.now)
-
-pub add-requires-clause-room : goal.add-requires-clause-room
-add-requires-clause-room c = still_within c.args.columns.now.outputs.places.now c.args.columns.now.outputs.words c.args.columns.now.outputs.words _ (lists_of c.args.buffers.now) (lists_of c.loop-t.buffers) c.loop-t.invariant c.requires.fits.room
 
 pub loop-t-preserved : goal.loop-t-preserved
 loop-t-preserved c =
@@ -22,10 +15,3 @@ loop-t-preserved c =
     (lists_of c.args.buffers.now) (lists_of c.loop-t.buffers) (lists_of c.add.new.buffers)
     (subst (λ s. EachColumn (ArePowerSums s.levels 0) s c.power_sums.new.rows) sums c.power_sums.ensures) c.requires.shape.levels low narrow
     (c.factor_of-factor.ensures ∙ ap (λ e. mul (pow 2 ((e + t) * c.args.class.now.number)) (chirp_inverse plan.classes (e + t))) exponent) c.row.ensures.words c.loop-t.invariant c.add.ensures
-
-pub returns-clause-added : goal.returns-clause-added
-returns-clause-added c =
-    let plan = c.args.class.now.plan in
-    let was = lists_of c.args.buffers.now in
-    let is : c.loop-t.t ≡ min plan.block (length c.args.columns.now.outputs.places.now - c.args.first) = omega (arith, c.loop-t-test.false, c.loop-t.auto.t-end, c.min-t-end.ensures, c.saturating_sub.ensures, c.len.ensures) in
-    all_outputs c.args.columns.now.outputs.places.now c.args.columns.now.outputs.words (cut_of plan) c.args.self.now.sums c.args.self.now.exponent c.args.class.now.number c.args.columns.now.from c.args.columns.now.to c.args.first plan.block c.loop-t.t was (lists_of c.loop-t.buffers) is c.loop-t.invariant

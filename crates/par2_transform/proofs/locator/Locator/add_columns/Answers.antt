@@ -1,16 +1,8 @@
-use Rattle.par2_transform.proofs.Common.{◌+◌, ◌-◌, ◌^◌, ◌<◌, ◌≡◌, ◌∙◌, refl, ap, sym, subst, arith, length, mul, pow, Grid, column, field_sum_same, numerator, lists_of, byte_lists, words_at, quotient_sum}
+use Rattle.par2_transform.proofs.Common.{◌+◌, ◌-◌, ◌^◌, ◌<◌, ◌≡◌, ◌∙◌, ap, sym, subst, arith, length, mul, pow, Grid, column, field_sum_same, numerator, lists_of, byte_lists, words_at, quotient_sum}
 use Rattle.par2_transform.proofs.ColumnLaws.{wider_fit}
 use Rattle.par2_transform.specs.Locators.{HoldNumerators}
-use Rattle.par2_transform.proofs.LocatorLaws.{shifted_most, no_coset, next_coset, all_cosets}
+use Rattle.par2_transform.proofs.LocatorLaws.{shifted_most, next_coset, all_cosets}
 use Rattle.par2_transform.proofs.locator.Locator.add_columns.Goals as goal
-
-pub loop-coset-init : goal.loop-coset-init
-loop-coset-init c =
-    let self = c.args.self.now in
-    record {
-      kept = refl;
-      added = no_coset c.args.columns.now.outputs.places.now c.args.columns.now.outputs.words self.numbers.items self.levels c.args.columns.now.from c.args.columns.now.to (λ t p. quotient_sum self.numerators.sequence.items self.points.items self.factors.items (words_at (byte_lists c.args.sources.now) p) t) (lists_of c.args.buffers.now);
-    }
 
 pub add_coset-requires : goal.add_coset-requires
 add_coset-requires c =
@@ -47,12 +39,6 @@ loop-coset-preserved c =
       added = next_coset c.args.columns.now.outputs.places.now c.args.columns.now.outputs.words self.numbers.items self.levels c.args.columns.now.from c.args.columns.now.to l.coset (λ t p. quotient_sum self.numerators.sequence.items self.points.items self.factors.items (words_at (byte_lists c.args.sources.now) p) t)
           (lists_of c.args.buffers.now) (lists_of l.buffers) (lists_of c.add_coset.new.buffers) l.invariant.added c.add_coset.ensures.added;
     }
-
-pub returns-clause-size : goal.returns-clause-size
-returns-clause-size c = record {
-  levels = ap (λ (g : Grid). g.levels) c.loop-coset.invariant.kept ∙ c.combine.ensures.levels ∙ sym c.sum.new.scratch.same_levels ∙ c.sum.ensures.numerators.levels ∙ c.args.scratch.now.same_levels;
-  words = ap (λ (g : Grid). g.words) c.loop-coset.invariant.kept ∙ c.combine.ensures.words ∙ sym c.sum.new.scratch.same_words ∙ c.sum.ensures.numerators.words ∙ c.args.scratch.now.same_words;
-}
 
 pub returns-clause-added : goal.returns-clause-added
 returns-clause-added c =

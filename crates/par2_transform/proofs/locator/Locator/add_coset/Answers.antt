@@ -1,26 +1,6 @@
-use Rattle.par2_transform.proofs.Common.{◌-◌, ◌*◌, ◌^◌, ◌<◌, ◌≡◌, ◌∙◌, sym, arith, rules, length, get_or, mul, lists_of, byte_lists, words_at, column, quotient_sum}
-use Rattle.par2_transform.proofs.ColumnLaws.{wider_fit}
-use Rattle.par2_transform.proofs.LocatorLaws.{none_added_yet, next_point, all_added, coset_part, given_is}
+use Rattle.par2_transform.proofs.Common.{◌-◌, ◌*◌, ◌^◌, ◌<◌, sym, arith, rules, length, get_or, mul, lists_of, byte_lists, words_at, column, quotient_sum}
+use Rattle.par2_transform.proofs.LocatorLaws.{next_point, given_is}
 use Rattle.par2_transform.proofs.locator.Locator.add_coset.Goals as goal
-
-pub add_point-requires : goal.add_point-requires
-add_point-requires c =
-    let low : c.loop-j.j < length c.args.columns.now.outputs.places.now = search rules in
-    record {
-      coset = c.requires.coset;
-      place = low;
-      serves = record {
-        count = c.requires.serves.count;
-        levels = c.evaluate.ensures.values.levels ∙ c.args.scratch.now.same_levels ∙ c.requires.serves.levels;
-        fits = wider_fit c.args.scratch.now.rows.words _ c.args.columns.now _ c.args.buffers.now c.loop-j.buffers c.loop-j.invariant c.requires.serves.fits (omega (arith, c.evaluate.ensures.values.words, c.args.scratch.now.same_words));
-      };
-    }
-
-pub loop-j-init : goal.loop-j-init
-loop-j-init c =
-    let self = c.args.self.now in
-    none_added_yet c.args.columns.now.outputs.places.now c.args.columns.now.outputs.words
-    (coset_part self.numbers.items self.levels c.args.coset c.args.columns.now.from c.args.columns.now.to (λ t p. quotient_sum self.numerators.sequence.items self.points.items self.factors.items (words_at (byte_lists c.args.sources.now) p) t)) (lists_of c.args.buffers.now)
 
 pub loop-j-preserved : goal.loop-j-preserved
 loop-j-preserved c =
@@ -35,11 +15,3 @@ loop-j-preserved c =
     given_is self.numerators.sequence.items self.points.items self.factors.items self.numbers.items self.next.items sources self.levels c.args.coset c.args.columns.now.from c.args.scratch.now.rows c.args.scratch.now.sums rows
     c.requires.bytes self.numerators.elements self.points_fit self.factors_fit self.numbered c.evaluate.ensures.values (sym c.args.scratch.now.same_words) c.requires.numerators
     c.loop-j.j p (omega (arith, low, c.requires.serves.count)) from_here (omega (arith, high, c.requires.serves.fits.narrow, c.args.scratch.now.same_words)) first last)
-
-pub returns-clause-added : goal.returns-clause-added
-returns-clause-added c =
-    let self = c.args.self.now in
-    let end : length c.args.columns.now.outputs.places.now ≡ c.loop-j.j = search rules in
-    all_added c.args.columns.now.outputs.places.now c.args.columns.now.outputs.words c.loop-j.j
-    (coset_part self.numbers.items self.levels c.args.coset c.args.columns.now.from c.args.columns.now.to (λ t p. quotient_sum self.numerators.sequence.items self.points.items self.factors.items (words_at (byte_lists c.args.sources.now) p) t))
-    (lists_of c.args.buffers.now) (lists_of c.loop-j.buffers) end c.loop-j.invariant

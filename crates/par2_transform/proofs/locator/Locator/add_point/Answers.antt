@@ -1,14 +1,6 @@
-use Rattle.par2_transform.proofs.Common.{ℕ, List, ◌-◌, ◌*◌, ◌%◌, ◌^◌, ◌<◌, ◌∙◌, ap, sym, subst, arith, get_or, mul, within, lists_of, column}
-use Rattle.par2_transform.proofs.LocatorLaws.{less_rows, shifted_most, coset_first, point_before, point_behind, point_taken}
+use Rattle.par2_transform.proofs.Common.{ℕ, List, ◌-◌, ◌*◌, ◌%◌, ◌^◌, ◌∙◌, ap, arith, get_or, mul, within, lists_of, column}
+use Rattle.par2_transform.proofs.LocatorLaws.{shifted_most, coset_first, point_before, point_behind, point_taken}
 use Rattle.par2_transform.proofs.locator.Locator.add_point.Goals as goal
-
-pub row-requires : goal.row-requires
-row-requires c =
-    let self = c.args.self.now in
-    let few = less_rows self.levels self.numerators.levels self.few in
-    let size = shifted_most self.levels (omega (arith, self.few, self.numerators.few)) in
-    let low : c.word_or_zero-number.result - c.args.coset * 2 ^ self.levels % 18446744073709551616 < 2 ^ self.numerators.levels = omega (arith, few, size, c.if-u-self.true) in
-    subst (λ m. c.word_or_zero-number.result - c.args.coset * 2 ^ self.levels % 18446744073709551616 < 2 ^ m) (sym c.requires.serves.levels) low
 
 pub returns-then-number-first : goal.returns-then-number-first
 returns-then-number-first c =

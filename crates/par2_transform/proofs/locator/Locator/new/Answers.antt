@@ -2,11 +2,6 @@ use Rattle.par2_transform.proofs.Common.{ℕ, List, ◌-◌, ◌^◌, ◌≤◌,
 use Rattle.par2_transform.proofs.LocatorLaws.{half_fits, numbered_by}
 use Rattle.par2_transform.proofs.locator.Locator.new.Goals as goal
 
-pub new-requires : goal.new-requires
-new-requires c =
-    let many : c.len-count.result ≡ length c.args.sequence.items = search rules in
-    omega (arith, many, c.requires.few)
-
 pub invariant_of-result : goal.invariant_of-result
 invariant_of-result c = record {
   few = omega arith;

@@ -1,10 +1,6 @@
-use Rattle.par2_transform.proofs.Common.{rules, ◌+◌, ◌-◌, ◌<◌, ◌≡◌, ◌∙◌, sym, ap, arith, length, mul, within, lists_of, byte_lists, words_at, numerator}
-use Rattle.par2_transform.proofs.LocatorLaws.{none_added_yet, next_row_added, numerator-lt, one_times}
+use Rattle.par2_transform.proofs.Common.{rules, ◌+◌, ◌-◌, ◌<◌, ◌≡◌, ◌∙◌, ap, arith, length, mul, lists_of, byte_lists, words_at, numerator}
+use Rattle.par2_transform.proofs.LocatorLaws.{next_row_added, numerator-lt, one_times}
 use Rattle.par2_transform.proofs.numerators.Numerators.add_columns.Goals as goal
-
-pub loop-t-init : goal.loop-t-init
-loop-t-init c =
-    none_added_yet c.args.columns.now.outputs.places.now c.args.columns.now.outputs.words (λ t p. within c.args.columns.now.from c.args.columns.now.to p (numerator c.args.self.now.sequence.items (words_at (byte_lists c.args.sources.now) p) t)) (lists_of c.args.buffers.now)
 
 pub loop-t-preserved : goal.loop-t-preserved
 loop-t-preserved c =
@@ -22,9 +18,3 @@ loop-t-preserved c =
     ∙ numerators.each (p - c.args.columns.now.from) l.t (omega (arith, first, last, c.requires.fits.narrow, c.args.scratch.now.same_words)) (omega (arith, low, c.requires.count))
     ∙ ap (λ q. numerator self.sequence.items (words_at sources q) l.t) place)
     ∙ one_times (numerator self.sequence.items (words_at sources p) l.t) (numerator-lt self.sequence.items sources p l.t c.sum.ensures.bytes self.elements))
-
-pub returns-clause-size : goal.returns-clause-size
-returns-clause-size c = record {
-  levels = sym c.sum.new.scratch.same_levels ∙ c.sum.ensures.numerators.levels ∙ c.args.scratch.now.same_levels;
-  words = sym c.sum.new.scratch.same_words ∙ c.sum.ensures.numerators.words ∙ c.args.scratch.now.same_words;
-}

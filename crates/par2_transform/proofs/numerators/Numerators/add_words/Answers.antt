@@ -1,33 +1,6 @@
-use Rattle.par2_transform.proofs.Common.{◌∙◌, ◌≡◌, ◌≤◌, sym, subst, arith, length, lists_of, byte_lists, words_at, numerator, Places}
-use Rattle.par2_transform.proofs.ColumnLaws.{begins, columns_within, no_words, next_words, all_words}
+use Rattle.par2_transform.proofs.Common.{◌∙◌, ◌≡◌, arith, lists_of, byte_lists, words_at, numerator}
+use Rattle.par2_transform.proofs.ColumnLaws.{begins, next_words, all_words}
 use Rattle.par2_transform.proofs.numerators.Numerators.add_words.Goals as goal
-
-pub columns-columns-requires : goal.columns-columns-requires
-columns-columns-requires c = begins c.args.outputs.now.words c.columns_for-width.result c.loop-k.k c.div_ceil-k-end.result (let some = c.columns_for-width.ensures.0 in some) c.div_ceil-k-end.ensures c.loop-k-test.true
-
-pub add_columns-requires : goal.add_columns-requires
-add_columns-requires c =
-    let l = c.loop-k in
-    let outputs = c.args.outputs.now in
-    let is = c.columns-columns.ensures in
-    record {
-      sources = c.requires.sources;
-      count = subst (λ (o : Places). length o.places.now ≤ c.args.self.now.count) (sym is.outputs) c.requires.count;
-      levels = l.invariant.levels;
-      fits = record {
-        narrow = omega (arith, is.from, is.to, l.invariant.words);
-        room = columns_within outputs c.columns-columns.result _ (lists_of c.args.buffers.now) (lists_of l.buffers) is.outputs l.invariant.added c.requires.room;
-      };
-    }
-
-pub loop-k-init : goal.loop-k-init
-loop-k-init c =
-    let self = c.args.self.now in
-    record {
-      levels = c.in_ok-rows.ensures.levels;
-      words = c.in_ok-rows.ensures.words;
-      added = no_words c.args.outputs.now c.columns_for-width.result (λ t p. numerator self.sequence.items (words_at (byte_lists c.args.sources.now) p) t) (lists_of c.args.buffers.now);
-    }
 
 pub loop-k-preserved : goal.loop-k-preserved
 loop-k-preserved c =

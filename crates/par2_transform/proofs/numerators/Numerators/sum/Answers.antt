@@ -1,20 +1,6 @@
-use Rattle.par2_transform.proofs.Common.{ℕ, List, ◌+◌, ◌^◌, ◌≤◌, ◌≡◌, ◌∙◌, sym, ap, subst, arith, length, slice_index, byte_lists, AreValues, EachColumn, RowsGathered, HaveFirst, words_at, Bor, length-map}
+use Rattle.par2_transform.proofs.Common.{ℕ, List, ◌+◌, ◌^◌, ◌≡◌, ◌∙◌, sym, subst, length, slice_index, byte_lists, AreValues, EachColumn, RowsGathered, HaveFirst, words_at, Bor, length-map}
 use Rattle.par2_transform.proofs.LocatorLaws.{numerators_are}
 use Rattle.par2_transform.proofs.numerators.Numerators.sum.Goals as goal
-
-pub fill-requires : goal.fill-requires
-fill-requires c = subst (λ m. length c.args.sources.now ≤ 2 ^ m) (sym c.requires.levels) (omega (arith, c.requires.count, c.args.self.now.fit))
-
-pub gather_rows-requires : goal.gather_rows-requires
-gather_rows-requires c =
-    let sums_levels = c.clear.ensures.levels ∙ (c.args.scratch.now.same_levels ∙ c.requires.levels) in
-    record {
-      weights = ap (λ (xs : List ℕ). length xs) c.deref.ensures.value ∙ c.args.self.now.weighed.count ∙ ap (λ m. 2 ^ m) (sym sums_levels);
-      same = record {
-        levels = c.values_at_points.ensures.levels ∙ c.fill.ensures.rows.levels ∙ c.requires.levels ∙ sym sums_levels;
-        words = c.values_at_points.ensures.words ∙ c.fill.ensures.rows.words ∙ (sym c.args.scratch.now.same_words) ∙ sym c.clear.ensures.words;
-      };
-    }
 
 pub returns-clause-numerators : goal.returns-clause-numerators
 returns-clause-numerators c =

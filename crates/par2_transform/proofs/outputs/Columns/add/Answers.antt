@@ -1,21 +1,6 @@
-use Rattle.par2_transform.proofs.Common.{◌-◌, ℕ, ap, subst, arith, length, mul, word, OneChanged, list_at, lists_of, length-lists_of, within, AddsToPart, Place}
+use Rattle.par2_transform.proofs.Common.{◌-◌, ℕ, subst, mul, word, OneChanged, list_at, lists_of, within, AddsToPart, Place}
 use Rattle.par2_transform.proofs.AddingLaws.{adds_to_one}
 use Rattle.par2_transform.proofs.outputs.Columns.add.Goals as goal
-
-pub add_to_bytes-requires-clause-place : goal.add_to_bytes-requires-clause-place
-add_to_bytes-requires-clause-place c =
-    let low = (c.requires.room c.args.t c.requires.place).0 in
-    let same = ap (λ (place : Place). place.buffer) c.place_of-place.ensures in
-    let count = length-lists_of c.args.buffers.now in
-    omega (arith, low, same, count)
-
-pub add_to_bytes-requires-clause-room : goal.add_to_bytes-requires-clause-room
-add_to_bytes-requires-clause-room c =
-    let buffers = lists_of c.args.buffers.now in
-    let fits = (c.requires.room c.args.t c.requires.place).1 in
-    let at = ap (λ (place : Place). place.at) c.place_of-place.ensures in
-    let size = ap (λ (place : Place). length (list_at buffers place.buffer)) c.place_of-place.ensures in
-    omega (arith, fits, at, size)
 
 pub returns : goal.returns
 returns c =

@@ -1,5 +1,4 @@
 use Rattle.par2_transform.proofs.Common.{arith, ◌≡◌, subst, lists_of, cut_of}
-use Rattle.par2_transform.proofs.ColumnLaws.{still_fits}
 use Rattle.par2_transform.proofs.ClassLaws.{ClassesAdded, no_class, next_class, all_classes}
 use Rattle.par2_transform.proofs.windows.Windows.add_classes.Goals as goal
 
@@ -24,12 +23,3 @@ returns-clause-added c =
     let end : c.loop-r.r ≡ self.plan.classes = omega (arith, c.loop-r-test.false, c.loop-r.auto.r-end) in
     all_classes c.args.columns.now.outputs.places.now c.args.columns.now.outputs.words cut self.slices self.plan.columns self.first self.plan.block c.args.columns.now.from c.args.columns.now.to c.loop-r.rows c.loop-r.blocks was buffers self.few self.bytes self.reaches
     (subst (λ n. ClassesAdded c.args.columns.now.outputs.places.now c.args.columns.now.outputs.words cut self.slices self.plan.columns self.first self.plan.block c.args.columns.now.from c.args.columns.now.to n c.loop-r.rows c.loop-r.blocks was buffers) end c.loop-r.invariant)
-
-pub add_class-requires-clause-ready : goal.add_class-requires-clause-ready
-add_class-requires-clause-ready c = record { size = c.loop-r.invariant.kept; cover = c.loop-r.invariant.cover }
-
-pub add_class-requires-clause-fits : goal.add_class-requires-clause-fits
-add_class-requires-clause-fits c = still_fits c.args.self.now.plan.columns c.args.columns.now _ c.args.buffers.now c.loop-r.buffers c.loop-r.invariant.added c.requires.fits
-
-pub returns-clause-ready : goal.returns-clause-ready
-returns-clause-ready c = record { size = c.loop-r.invariant.kept; cover = c.loop-r.invariant.cover }

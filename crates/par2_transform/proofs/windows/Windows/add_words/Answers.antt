@@ -1,36 +1,6 @@
 use Rattle.par2_transform.proofs.Common.{rules, ◌≡◌, ◌+◌, ◌∙◌, sym, subst, arith, length, with_items_is, lists_of, CoverOutputs, cut_of, recovered, Places}
-use Rattle.par2_transform.proofs.ColumnLaws.{begins, columns_within, no_words, next_words, all_words}
+use Rattle.par2_transform.proofs.ColumnLaws.{begins, next_words, all_words}
 use Rattle.par2_transform.proofs.windows.Windows.add_words.Goals as goal
-
-pub columns-columns-requires : goal.columns-columns-requires
-columns-columns-requires c = begins c.args.outputs.now.words c.args.self.now.plan.columns c.loop-k.k c.div_ceil-k-end.result (let some = c.args.self.now.plan.some.1.1 in omega (arith, some)) c.div_ceil-k-end.ensures c.loop-k-test.true
-
-pub add_classes-requires : goal.add_classes-requires
-add_classes-requires c =
-    let self = c.args.self.now in
-    let plan = self.plan in
-    let l = c.loop-k in
-    let is = c.columns-columns.ensures in
-    record {
-      ready = record {
-        size = l.invariant.rows;
-        cover = subst (λ (o : Places). CoverOutputs (cut_of plan) plan.columns self.first plan.block (length o.places.now) c.as_mut_slice.result.now) (sym is.outputs)
-            (subst (CoverOutputs (cut_of plan) plan.columns self.first plan.block (length c.args.outputs.now.places.now)) (sym c.as_mut_slice.ensures.value) l.invariant.cover);
-      };
-      fits = record {
-        narrow = omega (arith, is.from, is.to);
-        room = columns_within c.args.outputs.now c.columns-columns.result _ (lists_of c.args.buffers.now) (lists_of l.buffers) is.outputs l.invariant.added c.requires.room;
-      };
-    }
-
-pub loop-k-init : goal.loop-k-init
-loop-k-init c =
-    let self = c.args.self.now in
-    record {
-      rows = record { levels = c.in_ok-rows.ensures.levels; words = c.in_ok-rows.ensures.words };
-      cover = subst (λ n. CoverOutputs (cut_of self.plan) self.plan.columns self.first self.plan.block n c.in_ok-blocks.blocks.items) c.len.ensures c.in_ok-blocks.ensures;
-      added = no_words c.args.outputs.now self.plan.columns (λ t p. recovered self.slices (self.first + t) p) (lists_of c.args.buffers.now);
-    }
 
 pub loop-k-preserved : goal.loop-k-preserved
 loop-k-preserved c =

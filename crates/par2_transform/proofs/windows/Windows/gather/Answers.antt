@@ -1,17 +1,11 @@
 use Rattle.par2_transform.proofs.Common.{cut_of}
-use Rattle.par2_transform.proofs.WindowLaws.{nothing_so_far, one_window_more, shape_kept}
+use Rattle.par2_transform.proofs.WindowLaws.{nothing_so_far, one_window_more}
 use Rattle.par2_transform.proofs.windows.Windows.gather.Goals as goal
 
 pub loop-a-init : goal.loop-a-init
 loop-a-init c = record {
   rows = c.requires.shapes.size;
   blocks = nothing_so_far (cut_of c.args.self.now.plan) c.args.self.now.slices c.args.r c.args.from c.args.blocks.now c.clear_all.new.blocks c.clear_all.ensures;
-}
-
-pub gather_window-requires-clause-shapes : goal.gather_window-requires-clause-shapes
-gather_window-requires-clause-shapes c = record {
-  size = c.loop-a.invariant.rows;
-  shape = shape_kept c.args.self.now.plan c.args.self.now.slices c.args.r c.args.from c.loop-a.a c.args.blocks.now c.loop-a.blocks c.loop-a.invariant.blocks c.requires.shapes.shape;
 }
 
 pub loop-a-preserved : goal.loop-a-preserved

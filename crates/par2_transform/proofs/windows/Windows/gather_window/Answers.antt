@@ -1,21 +1,6 @@
-use Rattle.par2_transform.proofs.Common.{arith, ◌≤◌, ◌^◌, ◌∙◌, ◌<◌, sym, subst, Gathers, GathersWindow, outputs_at, cut_of}
+use Rattle.par2_transform.proofs.Common.{arith, ◌≤◌, ◌^◌, ◌∙◌, sym, Gathers, GathersWindow, outputs_at, cut_of}
 use Rattle.par2_transform.proofs.WindowLaws.{becomes_too, gathers_values, values_of_window}
 use Rattle.par2_transform.proofs.windows.Windows.gather_window.Goals as goal
-
-pub gather_all-requires : goal.gather_all-requires
-gather_all-requires c = λ j h.
-    let shape = c.requires.shapes.shape j h in
-    record {
-      window = subst (λ n. c.args.a < n) (sym shape.windows) c.requires.window;
-      levels = c.values_at_points.ensures.levels ∙ c.fill.ensures.levels ∙ c.requires.shapes.size.levels ∙ sym shape.levels;
-      words = c.values_at_points.ensures.words ∙ c.fill.ensures.words ∙ c.requires.shapes.size.words ∙ sym shape.words;
-    }
-
-pub returns-clause-rows : goal.returns-clause-rows
-returns-clause-rows c = record {
-  levels = c.values_at_points.ensures.levels ∙ c.fill.ensures.levels ∙ c.requires.shapes.size.levels;
-  words = c.values_at_points.ensures.words ∙ c.fill.ensures.words ∙ c.requires.shapes.size.words;
-}
 
 pub returns-clause-gathered : goal.returns-clause-gathered
 returns-clause-gathered c =
