@@ -15,10 +15,11 @@ pub use Rattle.par2_md5_lanes.specs.Feeds.{at_hand, bytes_left}
 unfoldable pub use Rattle.par2_md5_lanes.specs.Feeds.{hash_behind}
 pub use Rattle.par2_md5_lanes.specs.Lanes.{Have, HaveLanes, four_words_at, lane, lane_words}
 pub use Rattle.par2_md5_lanes.specs.Messages.{HasAbsorbed, message_of, part_bytes}
-pub use Rattle.par2_md5_lanes.specs.Pendings.{TakeAll, TakesAll, bytes_to_absorb}
+pub use Rattle.par2_md5_lanes.specs.Pendings.{IsBegun, TakeAll, TakesAll, bytes_to_absorb}
 pub use Rattle.par2_md5_lanes.specs.Tails.{tail_len, tail_of}
-pub use Rattle.par2_md5_lanes.specs.Tasks.{HasBlocks, HasTaken, HaveBlocks, AllEndIn, EndsIn, EndsInWith, work, work_of, works}
-pub use Rattle.par2_md5_lanes.specs.Buffers.{AreSixteenths, buffer_at, buffers_of}
+pub use Rattle.par2_md5_lanes.specs.Tasks.{HasBlocks, HasEnded, HasTaken, HaveBlocks, AllProgress, EndsIn, EndsInWith, Progresses, work, work_of, works}
+pub use Rattle.par2_md5_lanes.specs.Buffers.{buffer_at, buffers_of}
+pub use Rattle.par2_md5_lanes.specs.Digests.{digest_at}
 pub use Rattle.par2_md5_lanes.specs.declared.midstate.Midstate.{Midstate}
 pub use Rattle.par2_md5_lanes.specs.declared.pending.Pending.{Pending}
 pub use Rattle.par2_md5_lanes.specs.declared.tasks.LaneTask.{LaneTask}

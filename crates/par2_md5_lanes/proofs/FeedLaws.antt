@@ -1,5 +1,5 @@
 -- The hash value after the blocks of some bytes.
-use Rattle.par2_md5_lanes.proofs.Common.{◌≡◌, ℕ, zero, suc, min, ◌++◌, length-append, ◌+◌, ◌*◌, ◌/◌, ◌%◌, ◌≤◌, List, length, take, drop, [], ◌∷◌, slice_index, subst, ap, ap₂, sym, refl, ◌∙◌, arith, length-drop, drop-append-le, take-append-le, drop-drop, drop-take, take-append-drop, take-take, compress, hash_after, hash_behind}
+use Rattle.par2_md5_lanes.proofs.Common.{◌≡◌, ℕ, zero, suc, min, ◌++◌, length-append, ◌+◌, ◌*◌, ◌/◌, ◌%◌, ◌≤◌, List, length, take, drop, ap, ap₂, sym, refl, ◌∙◌, arith, length-drop, drop-append-le, take-append-le, drop-drop, drop-take, take-append-drop, take-take, compress, hash_after, hash_behind}
 use Rattle.par2_md5_lanes.proofs.BlockLaws.{same_parts}
 
 -- the blocks from block a on
@@ -117,11 +117,3 @@ end_goes_on m x bytes bytes_is =
 pub rest_goes_on : (m x bytes block : List ℕ) → bytes ≡ drop (length m / 64 * 64) m ++ x → take (length bytes % 64) block ≡ drop (length bytes / 64 * 64) bytes
     → take (length (m ++ x) % 64) block ≡ drop (length (m ++ x) / 64 * 64) (m ++ x)
 rest_goes_on m x bytes block bytes_is held = grind (arith, length-append, length-drop, end_goes_on)
-
-four : (p : List ℕ) (n : ℕ) → slice_index (hash_after p n) 0 ∷ slice_index (hash_after p n) 1 ∷ slice_index (hash_after p n) 2 ∷ slice_index (hash_after p n) 3 ∷ [] ≡ hash_after p n
-unfolding hash_after compress
-four p n = grind (arith)
-
--- a hash value is four words
-pub four_words : (hash p : List ℕ) (n : ℕ) → hash ≡ hash_after p n → slice_index hash 0 ∷ slice_index hash 1 ∷ slice_index hash 2 ∷ slice_index hash 3 ∷ [] ≡ hash
-four_words hash p n is = subst (λ (h : List ℕ). slice_index h 0 ∷ slice_index h 1 ∷ slice_index h 2 ∷ slice_index h 3 ∷ [] ≡ h) (sym is) (four p n)

@@ -6,5 +6,4 @@ pub mod TailLaws
 pub mod FeedLaws
 pub mod TaskLaws
 pub mod BufferLaws
-pub mod PendingLaws
 pub mod SixteenLaws

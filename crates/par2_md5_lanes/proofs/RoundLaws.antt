@@ -5,10 +5,6 @@ use Rattle.std.proofs.lemmas.Bool.Decides.{nat_tests}
 use Rattle.std.proofs.lemmas.Nat.{and_le_r, or_lt, xor_lt}
 use Rattle.std.proofs.lemmas.Nat.Bits.{bit_at-lt, bit_at_and, bit_at_not, bit_at_or, bit_at_xor, same_from_bits_below}
 
--- the sum of a step, with the value of its function added last
-pub sum_reordered : (a f constant word : ℕ) → add32 (add32 (add32 a word) constant) f ≡ add32 (add32 (add32 a f) constant) word
-sum_reordered a f constant word = omega arith
-
 -- two words have no bit in common if one has none of the other's bits
 apart : (x y z : ℕ) → z < 2 ^ 32 → bit_and (bit_and x z) (bit_and y (bit_not w32 z)) ≡ 0
 apart x y z fits = search (arith, and-not_self, and_assoc, and_comm, and_zero_r)

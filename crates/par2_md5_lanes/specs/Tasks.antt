@@ -14,16 +14,6 @@ EndsInWith None kept bytes hash last rest = (hash_behind hash bytes (length byte
 abbrev pub EndsIn : LaneTask → List ℕ → List ℕ → List ℕ → Type 0
 EndsIn task hash last rest = EndsInWith task.hash task.rest (bytes_left task.feed) hash last rest
 
--- after n blocks of the bytes, the new task ends as the old one would have
-abbrev pub EndsInAfter : LaneTask → LaneTask → List ℕ → ℕ → Type 0
-EndsInAfter old new bytes n = (hash last rest : List ℕ) → EndsIn old hash last rest → EndsIn new (hash_behind hash bytes n) last rest
-
--- each of the first `count` tasks ends from the new hash value as it would have from the old one
-abbrev pub AllEndIn : {A : Type 0} → (ℕ → A → List ℕ) → ℕ → List LaneTask → A → List LaneTask → A → Type 0
-AllEndIn hash_at count old before new after =
-    (j : ℕ) (none : LaneTask) (last rest : List ℕ) → j < count
-    → EndsIn (get_or old j none) (hash_at j before) last rest → EndsIn (get_or new j none) (hash_at j after) last rest
-
 -- the task has this hash value after the whole blocks, and these bytes after them
 abbrev pub HasEnded : LaneTask → List ℕ → List ℕ → Type 0
 HasEnded task last rest = (task.hash ≡ Some last) × (take (length rest) task.rest ≡ rest)
@@ -54,10 +44,12 @@ work task = work_of task.hash (bytes_left task.feed)
 abbrev pub works : List LaneTask → List ℕ
 works tasks = map work tasks
 
--- none of the first `count` tasks has more work afterwards
-abbrev pub HaveNoMore : ℕ → List LaneTask → List LaneTask → Type 0
-HaveNoMore count old new = (j : ℕ) → j < count → get_or (works new) j 0 ≤ get_or (works old) j 0
+-- the new task ends from one hash value as the old one would have from another, and has n less work, if it had any
+pub record Progresses (old new : LaneTask) (before after : List ℕ) (n : ℕ) : Type 0 where
+  pub leads : (last rest : List ℕ) → EndsIn old before last rest → EndsIn new after last rest
+  pub shrinks : work new ≤ work old - n
 
--- each of the first `count` tasks has less work afterwards, if it had any
-abbrev pub HaveLess : ℕ → List LaneTask → List LaneTask → Type 0
-HaveLess count old new = (j : ℕ) → j < count → get_or (works new) j 0 ≤ get_or (works old) j 0 - 1
+-- each task k progresses from one hash value to another
+abbrev pub AllProgress : List LaneTask → List LaneTask → (ℕ → List ℕ) → (ℕ → List ℕ) → ℕ → Type 0
+AllProgress old new before after n =
+    (k : ℕ) (none : LaneTask) → k < length old → Progresses (get_or old k none) (get_or new k none) (before k) (after k) n

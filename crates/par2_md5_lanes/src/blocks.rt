@@ -1,15 +1,15 @@
 //! The blocks of several messages at once (`Hashes::absorbed`), and of one message by itself (`hashed`). A block is 64
 //! bytes, of which `read_words` makes sixteen words, and `steps` computes the hash value after it.
 
-ghost use Rattle.std.specs.Prelude.{◌≡◌, ◌≤◌, ◌<◌, ◌+◌, ◌*◌, ◌/◌, ◌%◌, ◌^◌, ℕ, List, length, take, drop, slice_index};
+ghost use Rattle.std.specs.Prelude.{◌≡◌, ◌≤◌, ◌<◌, ◌+◌, ◌*◌, ◌/◌, ◌%◌, ◌^◌, [], ℕ, List, length, take, drop, slice_index, slice_index_or};
 ghost use Rattle.md5.specs.Md5.{block_words};
 ghost use Rattle.par2_md5_lanes.specs.Feeds.{bytes_left, hash_behind};
-ghost use Rattle.par2_md5_lanes.specs.Lanes.{four_words_at, hash_of_sixteen, lane, lane_words, Have};
+ghost use Rattle.par2_md5_lanes.specs.Lanes.{hash_of_sixteen, lane, lane_words, Have};
 ghost use Rattle.par2_md5_lanes.specs.Buffers.{buffer_at};
 
-use crate::digest_of;
 use crate::feeds::Feed;
 use crate::lanes::Lanes;
+use crate::quads::state_of;
 use crate::steps::{HashState, Words, both_compressed, compressed, in_lane};
 use std::simd::prelude::*;
 
@@ -38,10 +38,10 @@ pub(crate) trait Hashes: Copy {
     // The hash value of one message.
     ghost at: { ℕ → Self → List ℕ };
 
-    /// Reads the hash values at the beginning of the buffers, low byte first.
-    fn read(buffers: &[&[u8]]) -> Self
-        requires { Have count 16 buffers.now }
-        ensures { (k : ℕ) → k < count → at k result ≡ four_words_at (buffer_at buffers.now k) 0 };
+    /// The hash values, one for each message.
+    fn from_hashes(hashes: &[[u32; 4]]) -> Self
+        requires { count ≤ length hashes.now }
+        ensures { (k : ℕ) → k < count → at k result ≡ slice_index_or hashes.now k [] };
 
     /// The hash values after the first `blocks` blocks of each buffer. `hash_behind`: the hash value after some blocks.
     fn absorbed(self, buffers: &[&[u8]], blocks: usize) -> Self
@@ -55,13 +55,33 @@ pub(crate) trait Hashes: Copy {
         ensures { result ≡ at k self.now };
 }
 
+// Word `i` of each hash value.
+#[tactic(auto, using(crate::proofs::LaneLaws::writes))]
+fn word_of_each<const N: usize>(hashes: &[[u32; 4]], i: usize) -> Simd<u32, N>
+    requires word { i < 4 }
+    requires count { N ≤ length hashes.now }
+    ensures { (k : ℕ) → k < N
+        → slice_index result k ≡ slice_index (slice_index_or hashes.now k []) i }
+{
+    let mut words = [0; N];
+    for k in 0..N {
+        words[k] = hashes[k][i];
+    }
+    Simd::from_array(words)
+}
+
 impl<const N: usize> Hashes for HashState<Simd<u32, N>> {
     ghost count = { N };
 
     ghost at = { lane slice_index };
 
-    fn read(buffers: &[&[u8]]) -> Self {
-        Lanes::four_words(buffers, 0)
+    fn from_hashes(hashes: &[[u32; 4]]) -> Self {
+        state_of(
+            word_of_each(hashes, 0),
+            word_of_each(hashes, 1),
+            word_of_each(hashes, 2),
+            word_of_each(hashes, 3),
+        )
     }
 
     fn absorbed(self, buffers: &[&[u8]], blocks: usize) -> Self {
@@ -89,10 +109,10 @@ impl Hashes for Sixteen {
 
     ghost at = { hash_of_sixteen };
 
-    fn read(buffers: &[&[u8]]) -> Self {
+    fn from_hashes(hashes: &[[u32; 4]]) -> Self {
         Sixteen {
-            low: HashState::read(&buffers[..8]),
-            high: HashState::read(&buffers[8..]),
+            low: HashState::from_hashes(&hashes[..8]),
+            high: HashState::from_hashes(&hashes[8..]),
         }
     }
 
@@ -126,7 +146,7 @@ pub(crate) fn hashed(hash: [u32; 4], feed: Feed, block: &mut [u8; 64]) -> [u32; 
         ≡ drop (length (bytes_left feed.entry) / 64 * 64) (bytes_left feed.entry) }
 {
     let mut feed = feed;
-    let mut state: HashState<Simd<u32, 1>> = HashState::read(&[&digest_of(hash)[..]]);
+    let mut state: HashState<Simd<u32, 1>> = HashState::from_hashes(&[hash]);
     while feed.fill(block) == 64 {
         state = state.absorbed(&[&block[..]], 1);
     }

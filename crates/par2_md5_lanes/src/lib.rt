@@ -9,7 +9,7 @@ ghost use Rattle.std.specs.Prelude.{◌≡◌, ◌≤◌, ◌<◌, ◌+◌, ◌*
 ghost use Rattle.std.specs.Int.{to_le_bytes};
 ghost use Rattle.md5.specs.Md5.{digest_bytes, hash_after, md5, padded_message};
 ghost use Rattle.par2_md5_lanes.specs.Digests.{digest_at};
-ghost use Rattle.par2_md5_lanes.specs.Buffers.{buffer_at, AreSixteenths};
+ghost use Rattle.par2_md5_lanes.specs.Buffers.{buffer_at};
 ghost use Rattle.par2_md5_lanes.specs.Lanes.{HaveLanes};
 
 mod blocks;
@@ -33,19 +33,22 @@ use steps::HashState;
 /// The largest number of messages that are digested side by side.
 pub const LANES: usize = 16;
 
-// The bytes in sixteen equal parts, one after the other, as the buffers of sixteen lanes.
-fn sixteenths(bytes: &[u8]) -> [&[u8]; LANES]
-    ensures { AreSixteenths bytes.now result }
+// The arrays as the buffers of sixteen lanes.
+#[tactic(auto, using(crate::proofs::LaneLaws::writes, crate::proofs::LaneLaws::bytes_here))]
+fn as_buffers<const N: usize>(arrays: &[[u8; N]; LANES]) -> [&[u8]; LANES]
+    ensures bytes { (k : ℕ) → k < 16 → buffer_at result k ≡ digest_at arrays.now k }
+    ensures size { (k : ℕ) → k < 16 → length (buffer_at result k) ≡ N }
 {
-    let size = bytes.len() / LANES;
-    let mut parts = [bytes; LANES];
+    let none: &[u8] = &[];
+    let mut buffers = [none; LANES];
     for k in 0..LANES {
-        parts[k] = &bytes[size * k..size * k + size];
+        buffers[k] = &arrays[k][..];
     }
-    parts
+    buffers
 }
 
 // The windows of `len` bytes that begin at `starts`, one for each lane.
+#[tactic(auto, using(crate::proofs::LaneLaws::writes, crate::proofs::LaneLaws::bytes_here))]
 fn windows<'a>(bytes: &'a [u8], starts: &[usize; LANES], len: usize) -> [&'a [u8]; LANES]
     requires within { (k : ℕ) → k < 16 → slice_index starts.now k + len ≤ length bytes.now }
     ensures { (k : ℕ)
@@ -74,15 +77,16 @@ fn digest_of(hash: [u32; 4]) -> [u8; 16]
 
 // The digests of the first `count` windows, of `len` bytes each, in as many lanes as `H` has. Each absorbs its whole
 // blocks, and then its tail: the rest and the padding.
+#[tactic(auto, using(crate::proofs::LaneLaws::writes))]
 fn digests<H: Hashes>(windows: &[&[u8]; LANES], count: usize, len: usize) -> [[u8; 16]; LANES]
     requires lanes { HaveLanes count H.count }
     requires within { (k : ℕ) → k < 16 → length (buffer_at windows.now k) ≡ len }
     ensures { (k : ℕ) → k < count → digest_at result k ≡ md5 (buffer_at windows.now k) }
 {
     let tails = tails_of_windows(windows, len);
-    let start = digest_of(Midstate::new().hash);
-    let before = H::read(&[&start[..]; LANES]).absorbed(windows, len / 64);
-    let hashes = before.absorbed(&sixteenths(&tails), tail_blocks(len));
+    let initial = Midstate::new().hash;
+    let before = H::from_hashes(&[initial; LANES]).absorbed(windows, len / 64);
+    let hashes = before.absorbed(&as_buffers(&tails), tail_blocks(len));
     let mut digests = [[0; 16]; LANES];
     for k in 0..count {
         digests[k] = digest_of(hashes.in_lane(k));

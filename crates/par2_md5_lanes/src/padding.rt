@@ -5,6 +5,7 @@
 ghost use Rattle.std.specs.Prelude.{◌≡◌, ◌≤◌, ◌<◌, ◌*◌, ◌/◌, ◌%◌, ℕ, length, take, drop};
 ghost use Rattle.par2_md5_lanes.specs.Tails.{tail_len, tail_of};
 ghost use Rattle.par2_md5_lanes.specs.Buffers.{buffer_at};
+ghost use Rattle.par2_md5_lanes.specs.Digests.{digest_at};
 
 use crate::LANES;
 use crate::feeds::Feed;
@@ -12,9 +13,6 @@ use crate::midstate::ending;
 
 // The largest number of bytes in the tail of a message.
 const TAIL_LEN: usize = 128;
-
-// The number of bytes for the tails of all messages.
-const TAILS_LEN: usize = LANES * TAIL_LEN;
 
 /// The number of blocks in the tail of a message of `len` bytes.
 pub(crate) fn tail_blocks(len: usize) -> usize
@@ -32,19 +30,26 @@ fn rest_of(window: &[u8]) -> &[u8]
     &window[window.len() / 64 * 64..]
 }
 
-/// The tails of the windows of `len` bytes: that of window k begins at byte 128 k of the result.
-pub(crate) fn tails_of_windows(windows: &[&[u8]; LANES], len: usize) -> [u8; TAILS_LEN]
-    requires within { (k : ℕ) → k < 16 → length (buffer_at windows.now k) ≡ len }
-    ensures size { length result ≡ 2048 }
-    ensures tails { (k : ℕ) → k < 16 → take (tail_len len) (drop (128 * k) result)
-        ≡ tail_of len (buffer_at windows.now k) }
+// The tail of a window, followed by zeros.
+fn tail_of(window: &[u8]) -> [u8; TAIL_LEN]
+    ensures { take (tail_len (length window.now)) result ≡ tail_of (length window.now) window.now }
 {
-    let padding = ending(len as u64);
-    let mut tails = [0; TAILS_LEN];
+    let padding = ending(window.len() as u64);
+    let mut tail = [0; TAIL_LEN];
+    Feed::new(rest_of(window), &padding).fill(&mut tail);
+    tail
+}
+
+/// The tails of the windows of `len` bytes, each at the beginning of its array.
+#[tactic(auto, using(crate::proofs::LaneLaws::writes, crate::proofs::LaneLaws::bytes_here))]
+pub(crate) fn tails_of_windows(windows: &[&[u8]; LANES], len: usize) -> [[u8; TAIL_LEN]; LANES]
+    requires within { (k : ℕ) → k < 16 → length (buffer_at windows.now k) ≡ len }
+    ensures { (k : ℕ) → k < 16
+        → take (tail_len len) (digest_at result k) ≡ tail_of len (buffer_at windows.now k) }
+{
+    let mut tails = [[0; TAIL_LEN]; LANES];
     for k in 0..LANES {
-        let at = TAIL_LEN * k;
-        let mut feed = Feed::new(rest_of(windows[k]), &padding);
-        feed.fill(&mut tails[at..at + TAIL_LEN]);
+        tails[k] = tail_of(windows[k]);
     }
     tails
 }

@@ -12,12 +12,12 @@ ghost use Rattle.par2_md5_lanes.specs.Buffers.{buffers_of};
 ghost use Rattle.par2_md5_lanes.specs.declared.midstate.Midstate.{Midstate};
 ghost use Rattle.par2_md5_lanes.specs.declared.pending.Pending.{Pending};
 
+use crate::LANES;
 use crate::blocks::{Hashes, Sixteen};
 use crate::feeds::Feed;
 use crate::midstate::{Midstate, Part, length_of};
 use crate::steps::HashState;
 use crate::tasks::{LaneTask, finish_all};
-use crate::{LANES, digest_of, sixteenths};
 use std::alloc::{AllocError, Global};
 use std::array;
 use std::simd::prelude::*;
@@ -29,22 +29,18 @@ pub struct Pending<'a> {
     pub parts: Vec<Part<'a>>,
 }
 
-// The number of bytes of a hash value.
-const HASH_LEN: usize = 16;
-
 // The hash values of the states before their parts, that of state k in lane k. Other lanes have no meaning.
+#[tactic(auto, using(crate::proofs::LaneLaws::writes))]
 fn hashes_of<H: Hashes>(pendings: &[Pending]) -> H
     requires { HaveLanes (length pendings.now) H.count }
-    ensures { (k : ℕ) (m : List ℕ) (none : Pending) → k < length pendings.now
-        → let state = (get_or pendings.now k none).state in
-        HasAbsorbed state m → H.at k result ≡ state.hash }
+    ensures { (k : ℕ) (none : Pending) → k < length pendings.now
+        → H.at k result ≡ (get_or pendings.now k none).state.hash }
 {
-    let mut bytes = [0; HASH_LEN * LANES];
+    let mut hashes = [[0; 4]; LANES];
     for (k, pending) in pendings.iter().enumerate() {
-        let at = HASH_LEN * k;
-        bytes[at..at + HASH_LEN].copy_from_slice(&digest_of(pending.state.hash));
+        hashes[k] = pending.state.hash;
     }
-    H::read(&sixteenths(&bytes))
+    H::from_hashes(&hashes)
 }
 
 // The task of lane k: to absorb the bytes after the whole blocks of state k, and then its parts. A lane without a state
@@ -99,9 +95,10 @@ fn states_behind<'a, H: Hashes>(pendings: &'a [Pending<'a>]) -> [Midstate; LANES
     requires { HaveLanes (length pendings.now) H.count }
     ensures { Absorb pendings.now result }
 {
-    let mut tasks = tasks_of(pendings);
     let hashes: H = hashes_of(pendings);
-    finish_all(&mut tasks, hashes, pendings.len());
+    let mut tasks = tasks_of(pendings);
+    let tasks = &mut tasks[..pendings.len()];
+    finish_all(tasks, hashes);
     let mut states = [Midstate::new(); LANES];
     for (k, pending) in pendings.iter().enumerate() {
         states[k] = state_behind(pending, &tasks[k]);
@@ -131,8 +128,8 @@ fn pendings_of<'a>(alloc: Global, buffers: &[&'a [u8]]) -> Result<Vec<Pending<'a
         TakeAll pendings.items (λ k. slice_index_or (buffers_of buffers.now) k [])) }
 {
     let mut pendings = Vec::with_capacity(alloc, buffers.len())?;
-    for i in 0..buffers.len() {
-        let parts = Vec::from_slice(alloc, &[Part::Bytes(buffers[i])])?;
+    for bytes in buffers {
+        let parts = Vec::from_slice(alloc, &[Part::Bytes(bytes)])?;
         let state = Midstate::new();
         pendings.push(Pending { state, parts })?;
     }

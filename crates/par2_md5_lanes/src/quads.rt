@@ -26,6 +26,7 @@ fn word(bytes: &[u8], at: usize) -> u32
 
 // The word at byte `offset` of each of the first N buffers, read one by one: for other N than four and eight.
 #[inline(always)]
+#[tactic(auto, using(crate::proofs::LaneLaws::writes, crate::proofs::LaneLaws::bytes_here))]
 fn gathered_words<const N: usize>(buffers: &[&[u8]], offset: usize) -> Simd<u32, N>
     requires { Have N (offset + 4) buffers.now }
     ensures { (k : ℕ) → k < N → slice_index result k ≡ word_at (buffer_at buffers.now k) offset }
@@ -56,10 +57,11 @@ fn row(buffers: &[&[u8]], k: usize, offset: usize) -> u32x4
     words_of_one(buffers[k], offset)
 }
 
-// The state of these four vectors. The front end cannot construct a struct of vectors whose number of lanes is a
+/// The state of these four vectors.
+// The front end cannot construct a struct of vectors whose number of lanes is a
 // parameter, so a generic function does.
 #[inline(always)]
-fn state_of<V: Copy>(a: V, b: V, c: V, d: V) -> HashState<V>
+pub(crate) fn state_of<V: Copy>(a: V, b: V, c: V, d: V) -> HashState<V>
     ensures { result ≡ record { a = a; b = b; c = c; d = d } }
 {
     HashState { a, b, c, d }

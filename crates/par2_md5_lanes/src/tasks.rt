@@ -5,19 +5,17 @@
 ghost use Rattle.std.specs.Prelude.{◌≡◌, ◌≤◌, ◌<◌, ◌*◌, ◌-◌, ◌^◌, ℕ, List, IsTrue, length, take, drop, get_or};
 ghost use Rattle.par2_md5_lanes.specs.Feeds.{hash_behind};
 ghost use Rattle.par2_md5_lanes.specs.Lanes.{Have, HaveLanes};
-ghost use Rattle.par2_md5_lanes.specs.Tasks.{work, works, HasBlocks, HasEnded, HaveLess, HaveNoMore, AllEndIn, EndsInAfter, EndsIn};
+ghost use Rattle.par2_md5_lanes.specs.Tasks.{work, works, HasBlocks, HasEnded, AllProgress, Progresses, EndsIn};
 ghost use Rattle.par2_md5_lanes.specs.Buffers.{buffer_at};
+ghost use Rattle.par2_md5_lanes.specs.Digests.{digest_at};
 ghost use Rattle.par2_md5_lanes.specs.declared.tasks.LaneTask.{LaneTask};
 
 use crate::blocks::{Hashes, hashed};
 use crate::feeds::Feed;
-use crate::{LANES, sixteenths};
+use crate::{LANES, as_buffers};
 
 // At least as many blocks as any message has.
 const MOST_BLOCKS: usize = usize::MAX / 64;
-
-// The number of bytes for a block of each message.
-const ROOM: usize = LANES * 64;
 
 /// A message in a lane: the bytes that are left of it, or the hash value after its whole blocks.
 #[derive(Clone, Copy, Drop)]
@@ -43,11 +41,12 @@ impl<'a> LaneTask<'a> {
 
     // Takes `count` blocks without a copy, or returns `others` as blocks for the idle lane if the message has ended.
     fn take(&mut self, count: usize, others: &'a [u8]) -> &'a [u8]
+        requires some { 0 < count }
         requires blocks { HasBlocks self.old count }
         requires others { count * 64 ≤ length others.now }
         ensures room { count * 64 ≤ length result.now }
-        ensures leads { EndsInAfter self.old self.new result.now count }
-        ensures shrinks { 0 < count → work self.new ≤ work self.old - 1 }
+        ensures progress { (hash : List ℕ)
+            → Progresses self.old self.new hash (hash_behind hash result.now count) 1 }
     {
         match self.hash {
             Some(_) => others,
@@ -57,13 +56,10 @@ impl<'a> LaneTask<'a> {
 
     // Copies the next block of message k into `block`, or sets `hash` to the message's hash value in `state` if no
     // whole block is left.
-    fn advance<H: Hashes>(&mut self, block: &mut [u8], state: &H, k: usize)
-        requires within { k < H.count }
-        requires whole { length block.old ≡ 64 }
-        ensures leads { let hash = H.at k state.now in (last rest : List ℕ)
-            → EndsIn self.old hash last rest
-            → EndsIn self.new (hash_behind hash block.new 1) last rest }
-        ensures shrinks { work self.new ≤ work self.old - 1 }
+    fn advance<H: Hashes>(&mut self, block: &mut [u8; 64], state: &H, k: usize)
+        requires { k < H.count }
+        ensures { let hash = H.at k state.now in
+            Progresses self.old self.new hash (hash_behind hash block.new 1) 1 }
     {
         let None = self.hash else {
             return;
@@ -77,8 +73,7 @@ impl<'a> LaneTask<'a> {
 
     // Absorbs all blocks that are left, by itself. `hash` is the message's hash value so far.
     fn finish(&mut self, hash: [u32; 4])
-        ensures leads { (last rest : List ℕ)
-            → EndsIn self.old hash last rest → EndsIn self.new hash last rest }
+        ensures progress { Progresses self.old self.new hash hash 0 }
         ensures done { work self.new ≡ 0 }
     {
         let None = self.hash else {
@@ -103,108 +98,84 @@ fn batch_of(tasks: &[LaneTask]) -> usize
 
 // Takes `batch` blocks of each message without a copy. Other lanes get those of message `unfinished`, which has not
 // ended.
-fn take_all<'a>(
-    tasks: &mut [LaneTask<'a>; LANES],
-    count: usize,
-    batch: usize,
-    unfinished: usize,
-) -> [&'a [u8]; LANES]
+fn take_all<'a>(tasks: &mut [LaneTask<'a>], batch: usize, unfinished: usize) -> [&'a [u8]; LANES]
     // Each message has this many blocks, and `unfinished` is one that has not ended.
-    requires few { count ≤ 16 }
-    requires blocks { (k : ℕ) (none : LaneTask) → k < count
+    requires some { 0 < batch }
+    requires few { length tasks.old ≤ 16 }
+    requires blocks { (k : ℕ) (none : LaneTask) → k < length tasks.old
         → HasBlocks (get_or tasks.old k none) batch }
-    requires within { unfinished < count }
+    requires within { unfinished < length tasks.old }
     requires left { 0 < get_or (works tasks.old) unfinished 0 }
-    // Each message ends in the same hash value as before, once its lane has absorbed these blocks. It has less work
-    // left.
-    ensures leads { (k : ℕ) (none : LaneTask) → k < count → EndsInAfter
-        (get_or tasks.old k none) (get_or tasks.new k none) (buffer_at result k) batch }
-    ensures shrinks { 0 < batch → HaveLess count tasks.old tasks.new }
+    // Each message ends in the same hash value as before, once its lane has absorbed these blocks.
+    ensures progress { (hash : ℕ → List ℕ) → AllProgress tasks.old tasks.new
+        hash (λ k. hash_behind (hash k) (buffer_at result k) batch) 1 }
     // All sixteen lanes have blocks to absorb.
     ensures room { Have 16 (batch * 64) result }
-    ensures size { length tasks.new ≡ 16 }
 {
     let mut ahead = tasks[unfinished].feed;
     let others = ahead.take_at_hand(batch);
     let mut buffers = [others; LANES];
-    for k in 0..count {
-        let mut task = tasks[k];
+    for (k, task) in tasks.iter_mut().enumerate() {
         buffers[k] = task.take(batch, others);
-        tasks[k] = task;
     }
     buffers
 }
 
-// Copies the next block of each message k to byte 64 k of `blocks`, or sets the hash value after its last one.
-fn advance_all<H: Hashes>(
-    tasks: &mut [LaneTask; LANES],
-    blocks: &mut [u8; ROOM],
-    state: &H,
-    count: usize,
-)
-    requires { HaveLanes count H.count }
-    ensures leads { (k : ℕ) (none : LaneTask) (last rest : List ℕ) → k < count
-        → let hash = H.at k state.now in EndsIn (get_or tasks.old k none) hash last rest
-        → let block = take 64 (drop (64 * k) blocks.new) in
-        EndsIn (get_or tasks.new k none) (hash_behind hash block 1) last rest }
-    ensures shrinks { HaveLess count tasks.old tasks.new }
-    ensures size { length tasks.new ≡ 16 }
+// Copies the next block of each message, or sets the hash value after its last one.
+fn advance_all<H: Hashes>(tasks: &mut [LaneTask], blocks: &mut [[u8; 64]; LANES], state: &H)
+    requires { HaveLanes (length tasks.old) H.count }
+    ensures { AllProgress tasks.old tasks.new (λ k. H.at k state.now)
+        (λ k. hash_behind (H.at k state.now) (digest_at blocks.new k) 1) 1 }
 {
-    for k in 0..count {
-        let mut task = tasks[k];
-        task.advance(&mut blocks[64 * k..64 * k + 64], state, k);
-        tasks[k] = task;
+    for (k, task) in tasks.iter_mut().enumerate() {
+        task.advance(&mut blocks[k], state, k);
     }
 }
 
 // Whether message k and at least one after it have not ended.
-fn has_company(tasks: &[LaneTask], count: usize, k: usize) -> bool
-    requires within { k < count }
-    requires few { count ≤ length tasks.now }
+fn has_company(tasks: &[LaneTask], k: usize) -> bool
+    requires { k < length tasks.now }
     ensures { IsTrue result → 0 < get_or (works tasks.now) k 0 }
 {
-    tasks[k].hash.is_none() && tasks[k + 1..count].iter().any(|task| task.hash.is_none())
+    tasks[k].hash.is_none() && tasks[k + 1..].iter().any(|task| task.hash.is_none())
 }
 
 // Absorbs as many blocks at a time as all messages have without a copy, or else a copied block of each, until message k
 // or all messages after it have ended.
-fn go_on<H: Hashes>(tasks: &mut [LaneTask; LANES], state: H, count: usize, k: usize) -> H
+fn go_on<H: Hashes>(tasks: &mut [LaneTask], state: H, k: usize) -> H
     // Message k is one of the messages in lanes.
-    requires lanes { HaveLanes count H.count }
-    requires within { k < count }
-    // From the new hash values, each message ends as it would have from the old ones. None has more work left.
-    ensures leads { AllEndIn H.at count tasks.old state tasks.new result }
-    ensures stays { HaveNoMore count tasks.old tasks.new }
-    ensures size { length tasks.new ≡ 16 }
+    requires lanes { HaveLanes (length tasks.old) H.count }
+    requires within { k < length tasks.old }
+    // From the new hash values, each message ends as it would have from the old ones.
+    ensures { AllProgress tasks.old tasks.new (λ k. H.at k state) (λ k. H.at k result) 0 }
 {
     let mut state = state;
-    let mut blocks = [0; ROOM];
-    while has_company(tasks, count, k) {
-        let batch = batch_of(&tasks[..count]);
+    let mut blocks = [[0; 64]; LANES];
+    while has_company(tasks, k) {
+        let batch = batch_of(tasks);
         if batch > 0 {
-            let buffers = take_all(tasks, count, batch, k);
+            let buffers = take_all(tasks, batch, k);
             state = state.absorbed(&buffers, batch);
         } else {
-            advance_all(tasks, &mut blocks, &state, count);
-            state = state.absorbed(&sixteenths(&blocks), 1);
+            advance_all(tasks, &mut blocks, &state);
+            state = state.absorbed(&as_buffers(&blocks), 1);
         }
     }
     state
 }
 
-/// Absorbs all blocks of the first `count` messages, after `state`. The blocks of a message go beside others while
-/// there are any. The rest goes by itself, which is faster than with all lanes.
-pub(crate) fn finish_all<H: Hashes>(tasks: &mut [LaneTask; LANES], state: H, count: usize)
-    requires { HaveLanes count H.count }
-    ensures { (k : ℕ) (none : LaneTask) (last rest : List ℕ) → k < count
+/// Absorbs all blocks of the messages, after `state`. The blocks of a message go beside others while there are any. The
+/// rest goes by itself, which is faster than with all lanes.
+#[tactic(auto, using(crate::proofs::LaneLaws::writes))]
+pub(crate) fn finish_all<H: Hashes>(tasks: &mut [LaneTask], state: H)
+    requires { HaveLanes (length tasks.old) H.count }
+    ensures { (k : ℕ) (none : LaneTask) (last rest : List ℕ) → k < length tasks.old
         → EndsIn (get_or tasks.old k none) (H.at k state) last rest
         → HasEnded (get_or tasks.new k none) last rest }
 {
     let mut state = state;
-    for k in 0..count {
-        state = go_on(tasks, state, count, k);
-        let mut task = tasks[k];
-        task.finish(state.in_lane(k));
-        tasks[k] = task;
+    for k in 0..tasks.len() {
+        state = go_on(tasks, state, k);
+        tasks[k].finish(state.in_lane(k));
     }
 }

@@ -1,5 +1,5 @@
 -- Windows at the positions that a search finds.
-use Rattle.par2_slices.proofs.Common.{◌≡◌, ℕ, zero, suc, ◌+◌, ◌≤◌, ◌<◌, Bool, true, false, cond, List, [], ◌∷◌, ◌++◌, length, map, drop, get_or, refl, sym, ap, ap₂, subst, ◌∙◌, arith, Option, Some, None, IfSome, find, flat_map, option_map, Bor, range_with_len, option_or, flat_map-append, append-nil, drop_more, get_or-map, length-drop, length-map, find-append, Pair, first_match, found, is_match, window, windows, Position, first_position, first_position_from, no_pair, pair_at, position_in, listed_at, IsWithin, buffers_of, window_in}
+use Rattle.par2_slices.proofs.Common.{◌≡◌, ℕ, zero, suc, ◌+◌, ◌<◌, Bool, true, false, cond, List, [], ◌∷◌, ◌++◌, length, map, drop, get_or, refl, sym, ap, ap₂, subst, ◌∙◌, arith, Option, Some, None, IfSome, find, flat_map, option_map, range_with_len, option_or, flat_map-append, append-nil, drop_more, get_or-map, length-drop, length-map, find-append, Pair, first_match, found, is_match, window, windows, Position, first_position, first_position_from, no_pair, pair_at, position_in, listed_at, IsWithin, window_in}
 
 pub out_of : {X Y : Type 0} (f : X → Y) (b : Bool) (x : X) (o : Option X) → cond b (Some (f x)) (option_map f o) ≡ option_map f (cond b (Some x) o)
 out_of f true x o = refl
@@ -87,10 +87,3 @@ position_of_pair s buffers pairs positions items i positions_are items_are low =
     let are : items ≡ map (first_position s buffers) pairs = items_are ∙ positions_are in
     let inside : i < length pairs = omega (arith, low, ap length are, length-map pairs (first_position s buffers)) in
     (inside, ap (λ xs. get_or xs i None) are ∙ get_or-map (first_position s buffers) pairs i no_pair None inside)
-
--- the buffer of a position
-pub bytes_is : (buffers : List (Bor (List ℕ))) (position : Position) (d : Bor (List ℕ)) → IsWithin (buffers_of buffers) position → listed_at (buffers_of buffers) position.buffer ≡ (get_or buffers position.buffer d).now
-bytes_is buffers position d its = get_or-map (λ (bytes : Bor (List ℕ)). bytes.now) buffers position.buffer d [] (omega (arith, its.bytes, length-map buffers (λ (bytes : Bor (List ℕ)). bytes.now)))
-
-pub position_inside : (buffers : List (Bor (List ℕ))) (position : Position) (d : Bor (List ℕ)) → IsWithin (buffers_of buffers) position → position.offset ≤ length (get_or buffers position.buffer d).now
-position_inside buffers position d its = omega (arith, its.offset, ap length (bytes_is buffers position d its))

@@ -2,8 +2,8 @@
 use Prim.Native.Nat.{max}
 use mir.Val.{bits}
 use Rattle.std.specs.Int.{Width}
-use Rattle.par2_slices.proofs.Common.{◌≡◌, ◌≢◌, ℕ, zero, suc, ◌+◌, ◌-◌, ◌*◌, ◌^◌, ◌<◌, ◌%◌, ◌/◌, List, length, get_or, set, replicate, refl, subst, sym, ap, ◌∙◌, get_or-set_same, get_or-set_other, arith, inl, inr, ◌⊎◌, bit_and, bit_or, w8, bit_at, bit_not, cases_eq, get_or_read, shr_below, suc-ne-zero, Groups, IsLong, Includes}
-use Rattle.std.proofs.lemmas.Nat.Bits.{bit_at_or, bit_at-zero, bit_at_set_same, bit_at_set_other, bit_at_clear_same, bit_at_clear_other}
+use Rattle.par2_slices.proofs.Common.{below_more, length-set, ◌≡◌, ◌≢◌, ℕ, zero, suc, ◌+◌, ◌-◌, ◌*◌, ◌^◌, ◌<◌, ◌%◌, ◌/◌, List, length, get_or, set, replicate, refl, subst, sym, ap, ◌∙◌, get_or-set_same, get_or-set_other, arith, inl, inr, ◌⊎◌, bit_and, bit_or, w8, bit_at, bit_not, cases_eq, get_or_read, shr_below, suc-ne-zero, Groups, IsLong, Includes}
+use Rattle.std.proofs.lemmas.Nat.Bits.{bit_at_or, bit_at_set_same, bit_at_set_other, bit_at_clear_same, bit_at_clear_other}
 
 pub within : (crc shift : ℕ) → crc < 2 ^ 32 → shift < 32 → crc / 2 ^ shift < 2 ^ (32 - shift)
 within crc shift fits low =
@@ -17,9 +17,6 @@ below (inr many) n low = omega (arith, many, low)
 -- a checksum's byte is in the table, and what is read there
 pub its_place : (shift crc : ℕ) (bytes : List ℕ) → crc < 2 ^ 32 → IsLong shift bytes → crc / 2 ^ shift < length bytes
 its_place shift crc bytes fits long = subst (λ (n : ℕ). crc / 2 ^ shift < n) (sym long.len) (within crc shift fits (below long.either 32 (omega arith)))
-
-pub byte_read : (shift crc byte : ℕ) (bytes : List ℕ) → crc < 2 ^ 32 → IsLong shift bytes → byte ≡ get_or bytes (crc / 2 ^ shift) byte → byte ≡ get_or bytes (crc / 2 ^ shift) 0
-byte_read shift crc byte bytes fits long is = get_or_read bytes (crc / 2 ^ shift) byte (its_place shift crc bytes fits long) is 0
 
 pub replicate_at : {X : Type 0} (n i : ℕ) (x : X) → get_or (replicate n x) i x ≡ x
 replicate_at zero i x = refl
@@ -104,10 +101,6 @@ only_by_remove shift crc bytes place other is = elim (cases_eq (other / 2 ^ shif
   | inr apart ↦ record { bit = sym (elsewhere shift crc other _ bytes apart) ∙ is.bit }
 ]
 
--- a byte with a bit isn't zero
-pub not_zero : (byte k : ℕ) → bit_at byte k ≡ 1 → byte ≢ 0
-not_zero byte k is none = suc-ne-zero 0 (sym is ∙ ap (λ b. bit_at b k) none ∙ bit_at-zero k)
-
 -- the union of two bytes is odd if one of them is
 either : (a b : ℕ) → (a % 2 ≡ 1) ⊎ (b % 2 ≡ 1) → bit_or a b % 2 ≡ 1
 either a b has =
@@ -124,3 +117,6 @@ one_of_four P a b c d first second third fourth (suc zero) low is = either (bit_
 one_of_four P a b c d first second third fourth (suc (suc zero)) low is = either (bit_or a b) (bit_or c d) (inr (either c d (inl (third is))))
 one_of_four P a b c d first second third fourth (suc (suc (suc zero))) low is = either (bit_or a b) (bit_or c d) (inr (either c d (inr (fourth is))))
 one_of_four P a b c d first second third fourth (suc (suc (suc (suc k)))) low is = absurd (omega (arith, low))
+
+-- what a write of item k leaves of a list that a loop fills
+pub ruleset writes = (length-set, below_more, get_or-set_other, get_or-set_same)

@@ -378,17 +378,6 @@ one_settled pairs md5 crc position old group n found count so_far size inside no
       total = omega (arith, weighed, heavy, so_far.total);
     }
 
--- each place of the group was visited, so each pair was
-pub all_settled : (pairs : List Pair) (md5 : List ℕ) (crc : ℕ) (position : Position) (old new : List (Option Position)) (group : List PairPlace) → HoldsGroup pairs crc group
-    → ((i : ℕ) → i < length pairs → (answer_at new i ≡ answer_at old i) ⊎ (answer_at new i ≡ after_window (has_checksums md5 crc (pair_at pairs i)) position (answer_at old i)))
-    → ((k : ℕ) → k < length group → answer_at new (pair_place_at group k).index ≡ after_window (has_checksums md5 crc (pair_at pairs (pair_place_at group k).index)) position (answer_at old (pair_place_at group k).index))
-    → (i : ℕ) → i < length pairs → answer_at new i ≡ after_window (has_checksums md5 crc (pair_at pairs i)) position (answer_at old i)
-all_settled pairs md5 crc position old new group holds each done i low =
-    elim (cases_eq (pair_at pairs i).1 crc) [
-      | inl same ↦ (let its = holds.whole i low (ap (λ c. c / 2 ^ 17) same) in subst (λ (j : ℕ). answer_at new j ≡ after_window (has_checksums md5 crc (pair_at pairs j)) position (answer_at old j)) its.2 (done its.0 its.1))
-      | inr other ↦ kept (has_checksums md5 crc (pair_at pairs i)) position (answer_at old i) (answer_at new i) (each i low) (λ none. no_crc (pair_at pairs i) md5 crc other)
-    ]
-
 -- an open pair of another checksum stays open
 still_open : (pair : Pair) (md5 : List ℕ) (crc : ℕ) (position : Position) (old new : Option Position) → (new ≡ old) ⊎ (new ≡ after_window (has_checksums md5 crc pair) position old) → (pair.1 ≡ crc → ⊥) → old ≡ None → new ≡ None
 still_open pair md5 crc position old new (inl same) other none = same ∙ none

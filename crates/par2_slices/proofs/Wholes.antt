@@ -1,10 +1,5 @@
 -- Slices that lie in the file entirely, and their checksums one after the other.
-use Rattle.par2_slices.proofs.Common.{◌≡◌, ℕ, ◌+◌, ◌-◌, ◌*◌, ◌≤◌, ◌<◌, min, List, [], ◌∷◌, ◌++◌, length, map, take, drop, replicate, get_or, sym, ap, ap₂, ◌∙◌, zero-add, arith, range_with_len, mul-le-mul_right, map-range_with_len_more, append-nil, length-take, length-drop, map-append, md5, Pair, pair_of, slice_at, slice_count, window, div_ceil_times, first_pairs}
-
--- a slice that is counted begins in the file
-pub begins_within : (s n j : ℕ) → 1 ≤ s → j < slice_count s n → j * s < n
-begins_within s n j some below =
-    let more : (j + 1) * s ≤ slice_count s n * s = mul-le-mul_right s (omega (arith, below)) in omega (arith, more, (div_ceil_times n s some).1)
+use Rattle.par2_slices.proofs.Common.{◌≡◌, ℕ, ◌+◌, ◌-◌, ◌*◌, ◌≤◌, ◌<◌, min, List, [], ◌∷◌, ◌++◌, length, map, take, drop, replicate, get_or, sym, ap, ap₂, ◌∙◌, zero-add, arith, range_with_len, mul-le-mul_right, map-range_with_len_more, append-nil, length-take, length-drop, map-append, md5, Pair, pair_of, slice_at, window, first_pairs}
 
 -- a window that lies in the file has no padding
 pub whole_window : (s : ℕ) (bytes : List ℕ) (o : ℕ) → o + s ≤ length bytes → take s (drop o bytes) ≡ window s bytes o

@@ -8,6 +8,7 @@ ghost use Rattle.par2_spec.specs.Windows.{window};
 ghost use Rattle.par2_slices.specs.Searches.{candidate_at};
 
 use par2_md5_lanes::{LANES, window_digests};
+use std::array;
 
 /// The start of a window: the index of its buffer among those searched, and the offset there.
 #[derive(Clone, Copy, Default, Debug, Drop)]
@@ -23,18 +24,21 @@ pub(crate) struct Candidate {
     pub(crate) crc: u32,
 }
 
-// The offsets of the candidates, at most sixteen, one for each lane. Unused lanes have offset 0.
-fn starts(batch: &[Candidate]) -> [usize; LANES]
-    requires { length batch.now ≤ 16 }
-    ensures own { (k : ℕ) → k < length batch.now
-        → slice_index result k ≡ (candidate_at batch.now k).position.offset }
-    ensures left { (k : ℕ) → k < 16 → length batch.now ≤ k → slice_index result k ≡ 0 }
+// The offset of candidate k, or 0 for an unused lane.
+fn start(batch: &[Candidate], k: usize) -> usize
+    ensures { result ≡ (candidate_at batch.now k).position.offset }
 {
-    let mut starts = [0; LANES];
-    for (k, candidate) in batch.iter().enumerate() {
-        starts[k] = candidate.position.offset;
+    match batch.get(k) {
+        Some(candidate) => candidate.position.offset,
+        None => 0,
     }
-    starts
+}
+
+// The offsets of the candidates, one for each lane.
+fn starts(batch: &[Candidate]) -> [usize; LANES]
+    ensures { (k : ℕ) → k < 16 → slice_index result k ≡ (candidate_at batch.now k).position.offset }
+{
+    array::from_fn(|k| start(batch, k))
 }
 
 /// The MD5s of the candidates' windows of `s` bytes, in order. The windows lie in the file entirely. Lanes after the

@@ -8,8 +8,7 @@
 //! A filter is exactly the set of groups that were added and not removed. A search keeps a group exactly as long as a
 //! pair of it isn't found.
 
-ghost use Rattle.std.specs.Prelude.{◌≡◌, ◌≢◌, ◌≤◌, ◌*◌, ◌%◌, ◌<◌, ◌↔◌, ◌⊎◌, ℕ, IfOk, IsTrue, length, slice_index};
-ghost use Rattle.std.specs.Int.{bit_at};
+ghost use Rattle.std.specs.Prelude.{◌≡◌, ◌≢◌, ◌≤◌, ◌*◌, ◌/◌, ◌%◌, ◌^◌, ◌<◌, ◌↔◌, ◌⊎◌, ℕ, IfOk, IsTrue, length, slice_index, slice_set};
 ghost use Rattle.par2_slices.specs.Filters.{AreAlike, Includes, HasBit};
 
 use par2_spec::Result;
@@ -44,26 +43,18 @@ impl Model for Filter {
     ghost invariant = { λ a. IsLong a.shift a.bytes.items × Summarizes a.bytes.items a.summary.items };
 }
 
-// Sets the summary's bit for the byte at `place`.
-fn set_bit(summary: &mut [u32], place: usize)
+// Sets the summary's bit for the byte at `place`, or clears it if that is 0.
+fn summarize(summary: &mut [u32], place: usize, byte: u8)
     requires { place < 32 * length summary.old }
     ensures len { length summary.new ≡ length summary.old }
-    ensures bit { HasBit summary.new place }
-    ensures kept { (other : ℕ) → HasBit summary.old other → HasBit summary.new other }
-{
-    summary[place / 32] |= 1 << (place % 32);
-}
-
-// Clears the summary's bit for the byte at `place` if that is 0.
-fn clear_zero(summary: &mut [u32], place: usize, byte: u8)
-    requires { place < 32 * length summary.old }
-    ensures len { length summary.new ≡ length summary.old }
-    ensures here { byte ≢ 0 → HasBit summary.old place → HasBit summary.new place }
+    ensures here { byte ≢ 0 → HasBit summary.new place }
     ensures kept { (other : ℕ) → other ≢ place
         → HasBit summary.old other → HasBit summary.new other }
 {
     if byte == 0 {
         summary[place / 32] &= !(1 << (place % 32));
+    } else {
+        summary[place / 32] |= 1 << (place % 32);
     }
 }
 
@@ -92,6 +83,26 @@ impl Filter {
         other >> self.shift == crc >> self.shift && other % 8 == crc % 8
     }
 
+    // The byte in which the group of `crc` has its bit.
+    fn byte_at(&self, crc: u32) -> u8
+        ensures place { crc / 2 ^ self.now.shift < length self.now.bytes }
+        ensures value { result ≡ slice_index self.now.bytes (crc / 2 ^ self.now.shift) }
+    {
+        self.bytes[(crc >> self.shift) as usize]
+    }
+
+    // Writes this byte.
+    fn write(&mut self, crc: u32, byte: u8)
+        ensures { self.new ≡ record {
+          shift = self.old.shift;
+          bytes = slice_set self.old.bytes (crc / 2 ^ self.old.shift) byte;
+        } }
+    {
+        let place = (crc >> self.shift) as usize;
+        self.bytes[place] = byte;
+        summarize(self.summary.as_mut_slice(), place, byte);
+    }
+
     /// Adds the group of `crc`, and so each checksum of it. `Includes`: the group of a checksum is in the set.
     pub(crate) fn insert(&mut self, crc: u32)
         ensures shift { self.new.shift ≡ self.old.shift }
@@ -100,9 +111,7 @@ impl Filter {
         ensures only { (other : ℕ) → Includes self.new other
             → AreAlike self.old.shift crc other ⊎ Includes self.old other }
     {
-        let place = (crc >> self.shift) as usize;
-        self.bytes[place] |= 1 << (crc % 8);
-        set_bit(self.summary.as_mut_slice(), place);
+        self.write(crc, self.byte_at(crc) | 1 << (crc % 8));
     }
 
     /// Removes the group of `crc`, when no open pair has a checksum of it any more.
@@ -113,17 +122,7 @@ impl Filter {
             → Includes self.old other → Includes self.new other }
         ensures only { (other : ℕ) → Includes self.new other → Includes self.old other }
     {
-        let place = (crc >> self.shift) as usize;
-        self.bytes[place] &= !(1 << (crc % 8));
-        let byte = self.bytes[place];
-        clear_zero(self.summary.as_mut_slice(), place, byte);
-    }
-
-    // The byte in which the group of `crc` has its bit.
-    fn byte_at(&self, crc: u32) -> u8
-        ensures { bit_at result (crc % 8) ≡ 1 ↔ Includes self.now crc }
-    {
-        self.bytes[(crc >> self.shift) as usize]
+        self.write(crc, self.byte_at(crc) & !(1 << (crc % 8)));
     }
 
     // A number that is odd if the byte of the group of `crc` isn't 0. `shift` is the filter's; callers know it as a
@@ -138,11 +137,11 @@ impl Filter {
         summary[place / 32] >> (place % 32)
     }
 
-    /// Whether the group of `crc` is in the set.
+    /// Whether the group of `crc` is in the set. The summary is in a nearer cache, so it is asked first.
     pub(crate) fn contains(&self, crc: u32) -> bool
         ensures { IsTrue result ↔ Includes self.now crc }
     {
-        (self.byte_at(crc) >> (crc % 8)) % 2 == 1
+        self.summary_at(crc, self.shift) % 2 == 1 && (self.byte_at(crc) >> (crc % 8)) % 2 == 1
     }
 
     /// Whether the filter is for many pairs. This decides its shift, and so the constant for `may_contain_any`.

@@ -115,12 +115,14 @@ fn first_crc32(bytes: &[u8], s: u64, targets: &[Target]) -> Option<u32>
     requires { 1 ≤ s }
     ensures { IfSome result (IsFirst s bytes.now) }
 {
-    for target in targets {
-        if target.length == bytes.len() as u64 && !bytes.is_empty() {
-            return Some(slice_crc32(bytes, s, 0));
-        }
+    let is_needed = targets
+        .iter()
+        .any(|target| target.length == bytes.len() as u64);
+    if is_needed && !bytes.is_empty() {
+        Some(slice_crc32(bytes, s, 0))
+    } else {
+        None
     }
-    None
 }
 
 // The CRC-32s of the files' first slices. A file that has the length of many targets is compared with each of them,

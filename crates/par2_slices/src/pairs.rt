@@ -103,6 +103,7 @@ fn whole_md5s(group: SliceGroup, count: usize) -> [[u8; 16]; LANES]
 }
 
 /// The MD5s of the slices of the group, each with its padding. Other lanes have no meaning.
+#[tactic(auto, using(crate::proofs::Groups::writes))]
 pub(crate) fn slice_md5s(group: SliceGroup) -> [[u8; 16]; LANES]
     ensures { let its = group.entry in AreMd5s its.s its.bytes.now its.first its.count result }
 {

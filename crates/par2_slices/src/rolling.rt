@@ -32,6 +32,7 @@ impl Model for Rolling {
 }
 
 // For each byte, what it adds to the checksum when it leaves a window of `s` bytes.
+#[tactic(auto, using(crate::proofs::Groups::writes), unfolding(crate::specs::Rolls::leaving))]
 fn leaving_table(s: u64) -> [u32; 256]
     ensures { (byte : ℕ) → byte < 256 → slice_index result byte ≡ leaving s byte }
 {

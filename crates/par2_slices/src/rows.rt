@@ -20,24 +20,17 @@ pub(crate) struct Row {
     pub(crate) crcs: [u32; 4],
 }
 
-// The CRC-32 of the window of `s` bytes at an offset. The window lies in the buffer.
-fn crc_at(bytes: &[u8], s: u64, offset: usize) -> u32
-    requires { offset + s ≤ length bytes.now }
-    ensures { result ≡ spec.crc32 (window s bytes.now offset) }
-{
-    crc32(window_bytes(bytes, s, offset))
-}
-
 /// The CRC-32s of the first windows of four stretches of `LEN` offsets each, from offset `start` on: the first row.
+#[tactic(auto, using(crate::proofs::Wholes::whole_window))]
 pub(crate) fn first_crcs<const LEN: usize>(bytes: &[u8], s: u64, start: usize) -> [u32; 4]
     requires { start + 3 * LEN + s ≤ length bytes.now }
     ensures { AreCrcs s bytes.now start LEN 0 result }
 {
     [
-        crc_at(bytes, s, start),
-        crc_at(bytes, s, start + LEN),
-        crc_at(bytes, s, start + 2 * LEN),
-        crc_at(bytes, s, start + 3 * LEN),
+        crc32(window_bytes(bytes, s, start)),
+        crc32(window_bytes(bytes, s, start + LEN)),
+        crc32(window_bytes(bytes, s, start + 2 * LEN)),
+        crc32(window_bytes(bytes, s, start + 3 * LEN)),
     ]
 }
 

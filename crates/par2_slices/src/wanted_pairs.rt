@@ -67,20 +67,12 @@ fn places_of(alloc: Global, pairs: &[Pair]) -> Result<Vec<PairPlace>>
     Ok(places)
 }
 
-// The index where the places of this group and of those above it begin. Places before `start` are of groups below, so
-// that the search for the next group goes on where the last one ended.
-fn group_start(places: &[PairPlace], group: usize, start: usize) -> usize
-    requires rising { IsNonDecreasingBy (λ place. place.crc) places.now }
-    requires bound { start ≤ length places.now }
-    requires below { (k : ℕ) → k < start → (pair_place_at places.now k).crc / 2 ^ 17 < group }
+// The index where the places of this group and of those above it begin.
+fn group_start(places: &[PairPlace], group: usize) -> usize
+    requires { IsNonDecreasingBy (λ place. place.crc) places.now }
     ensures { IsStart places.now group result }
 {
-    for k in start..places.len() {
-        if (places[k].crc >> SHIFT) as usize >= group {
-            return k;
-        }
-    }
-    places.len()
+    places.partition_point(|place| ((place.crc >> SHIFT) as usize) < group)
 }
 
 // The index where the places of each group begin, followed by the number of all places: `Wanted::starts`.
@@ -88,13 +80,9 @@ fn group_starts(alloc: Global, places: &[PairPlace]) -> Result<Vec<usize>>
     requires { IsNonDecreasingBy (λ place. place.crc) places.now }
     ensures { IfOk result (λ starts. AreStarts places.now starts.items) }
 {
-    let mut starts = Vec::with_capacity(alloc, GROUPS + 1)?;
-    let mut start = 0;
-    for group in 0..GROUPS + 1 {
-        start = group_start(places, group, start);
-        starts.push(start)?;
-    }
-    Ok(starts)
+    (0..GROUPS + 1)
+        .map(|group| group_start(places, group))
+        .collect(alloc)
 }
 
 impl Wanted {

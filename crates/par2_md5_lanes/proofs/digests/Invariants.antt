@@ -1,5 +1,4 @@
-use Rattle.par2_md5_lanes.proofs.Common.{◌≡◌, ◌<◌, ℕ, length, digest_bytes}
-use Rattle.par2_md5_lanes.specs.Digests.{digest_at}
+use Rattle.par2_md5_lanes.proofs.Common.{◌≡◌, ◌<◌, ℕ, length, digest_at, digest_bytes}
 use Rattle.par2_md5_lanes.proofs.digests.Given as goal
 
 abbrev pub invariant-loop-k : goal.invariant-loop-k

@@ -1,4 +1,4 @@
-use Rattle.par2_md5_lanes.proofs.Common.{◌≡◌, ◌<◌, ◌++◌, ◌∷◌, ◌∙◌, [], ℕ, Bor, List, ap, append_assoc, arith, get_or, length, map, sym, take, length-map, take_all, map_more, md5, Pending, buffers_of}
+use Rattle.par2_md5_lanes.proofs.Common.{◌≡◌, ◌<◌, ◌++◌, ◌∷◌, ◌∙◌, [], ℕ, Bor, List, ap, append_assoc, arith, get_or, length, map, sym, take, length-map, map_more, md5, Pending, buffers_of}
 use Rattle.par2_md5_lanes.proofs.pending.push_digests.Goals as goal
 
 some_pending : (pendings : List Pending) (k : ℕ) → k < length pendings → Pending
@@ -20,8 +20,3 @@ loop-k-preserved c =
     ∙ ap (λ ds. ds ++ c.digest.result ∷ []) c.loop-k.invariant
     ∙ append_assoc c.args.digests.now.items (map md5 (take k buffers)) (c.digest.result ∷ [])
     ∙ ap (λ ds. c.args.digests.now.items ++ ds) (ap (λ d. map md5 (take k buffers) ++ d ∷ []) is ∙ sym (map_more md5 buffers k [] low))
-
-pub returns : goal.returns
-returns c =
-    let buffers = buffers_of c.args.buffers.now in
-    c.loop-k.invariant ∙ ap (λ ts. c.args.digests.now.items ++ map md5 ts) (take_all c.loop-k.k buffers (omega (arith, c.loop-k-test.false, length-map c.args.buffers.now (λ (bytes : Bor (List ℕ)). bytes.now))))

@@ -1,23 +1,32 @@
-use Rattle.par2_md5_lanes.proofs.Common.{◌≡◌, ◌*◌, ◌∙◌, ℕ, List, ap, arith, get_or, length, subst, sym, hash_behind, EndsIn}
-use Rattle.par2_md5_lanes.proofs.SixteenLaws.{have_parts}
+use Rattle.par2_md5_lanes.proofs.Common.{◌∙◌, ℕ, List, ap, arith, hash_behind}
+use Rattle.par2_md5_lanes.proofs.TaskLaws.{less_work, progress_twice}
 use Rattle.par2_md5_lanes.proofs.tasks.go_on.Goals as goal
 
-pub absorbed-state-requires-else-batch-gt0 : goal.absorbed-state-requires-else-batch-gt0
-absorbed-state-requires-else-batch-gt0 g c =
-    let room : 16 * 64 ≡ length c.advance_all.new.blocks = omega arith in
-    have_parts _ 64 64 _ _ c.sixteenths.ensures room c.requires.lanes.few (omega arith) (omega arith)
+pub loop-blocks-smaller-then-batch-gt0 : goal.loop-blocks-smaller-then-batch-gt0
+loop-blocks-smaller-then-batch-gt0 g c =
+    less_work c.loop-blocks.tasks c.take_all-buffers.new.tasks _ _ c.args.k c.take_all-buffers.auto.tasks (omega (arith, c.requires.within, c.loop-blocks.invariant.tasks))
+    (c.take_all-buffers.ensures.progress (λ k. g.H.Hashes.at k c.loop-blocks.state)) (c.has_company.ensures c.loop-blocks-test.true)
+
+pub loop-blocks-preserved-then-batch-gt0 : goal.loop-blocks-preserved-then-batch-gt0
+loop-blocks-preserved-then-batch-gt0 g c =
+    let at : ℕ → List ℕ = λ k. g.H.Hashes.at k c.loop-blocks.state in
+    record {
+      tasks = c.take_all-buffers.auto.tasks ∙ c.loop-blocks.invariant.tasks;
+      progress = progress_twice _ _ _ _ at (λ k. g.H.Hashes.at k c.absorbed-state.result) _ 1 c.loop-blocks.invariant.tasks c.loop-blocks.invariant.progress (c.take_all-buffers.ensures.progress at)
+          (λ k low. c.absorbed-state.ensures k (omega (arith, low, c.requires.lanes.own)));
+    }
+
+pub loop-blocks-smaller : goal.loop-blocks-smaller
+loop-blocks-smaller g c =
+    less_work c.loop-blocks.tasks c.advance_all.new.tasks _ _ c.args.k c.advance_all.auto.tasks (omega (arith, c.requires.within, c.loop-blocks.invariant.tasks))
+    c.advance_all.ensures (c.has_company.ensures c.loop-blocks-test.true)
 
 pub loop-blocks-preserved : goal.loop-blocks-preserved
 loop-blocks-preserved g c =
-    let held = c.loop-blocks.invariant in
-    let blocks = c.advance_all.new.blocks in
-    let room : 16 * 64 ≡ length blocks = omega arith in
+    let at : ℕ → List ℕ = λ k. g.H.Hashes.at k c.loop-blocks.state in
     record {
-      tasks = c.advance_all.ensures.size;
-      leads = λ j none last rest low leads.
-          let hash = g.H.Hashes.at j c.loop-blocks.state in
-          let part = c.sixteenths.ensures.parts j 64 (omega (arith, low, c.requires.lanes.own, c.requires.lanes.few)) room in
-          let after = c.absorbed-state-else-batch-gt0.ensures j (omega (arith, low, c.requires.lanes.own)) ∙ ap (λ bytes. hash_behind hash bytes 1) part in
-          subst (λ (h : List ℕ). EndsIn (get_or c.advance_all.new.tasks j none) h last rest) (sym after) (c.advance_all.ensures.leads j none last rest low (held.leads j none last rest low leads));
-      stays = λ j low. omega (arith, c.advance_all.ensures.shrinks j low, held.stays j low);
+      tasks = c.advance_all.auto.tasks ∙ c.loop-blocks.invariant.tasks;
+      progress = progress_twice _ _ _ _ at (λ k. g.H.Hashes.at k c.absorbed-state-else-batch-gt0.result) _ 1 c.loop-blocks.invariant.tasks c.loop-blocks.invariant.progress c.advance_all.ensures
+          (λ k low. c.absorbed-state-else-batch-gt0.ensures k (omega (arith, low, c.requires.lanes.own))
+          ∙ ap (λ bytes. hash_behind (at k) bytes 1) (c.as_buffers.ensures.bytes k (omega (arith, low, c.requires.lanes.own, c.requires.lanes.few))));
     }

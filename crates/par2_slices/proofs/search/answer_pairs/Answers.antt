@@ -1,10 +1,7 @@
-use Rattle.par2_slices.proofs.Common.{◌≡◌, ◌∙◌, ◌+◌, ℕ, List, false, true, set, ap, sym, subst, arith, ◌==◌, Option, Some, None, eqb-true, and_parts, is_none, bytes_eq, Pair, answer_at, is_awaited, pair_at, pair_place_at, has_checksums, IsPlace, Position, PairPlace, none_from, count_by-le-length}
-use Rattle.par2_slices.proofs.Searching.{Settled, all_settled, not_settled, one_settled, has_is, no_md5, not_awaited}
+use Rattle.par2_slices.proofs.Common.{◌≡◌, ◌∙◌, ◌+◌, ℕ, List, false, true, set, ap, sym, subst, ◌==◌, Option, Some, None, eqb-true, and_parts, is_none, bytes_eq, Pair, answer_at, is_awaited, pair_at, pair_place_at, has_checksums, IsPlace, Position, PairPlace, none_from}
+use Rattle.par2_slices.proofs.Searching.{Settled, not_settled, one_settled, has_is, no_md5, not_awaited}
 use Rattle.par2_slices.proofs.search.answer_pairs.Goals as goal
 use Rattle.par2_slices.proofs.search.answer_pairs.Goals.{then-is_awaited+then-eq, else-is_awaited, else-is_awaited-via-then-is_awaited+else-eq, else-is_awaited-via-else-is_awaited}
-
-pub overflow_add-count : goal.overflow_add-count
-overflow_add-count c = omega (arith, c.loop-place.invariant.total, count_by-le-length is_none c.args.found.now.items)
 
 pub loop-place-preserved : goal.loop-place-preserved
 loop-place-preserved c =
@@ -43,8 +40,3 @@ loop-place-preserved c =
           ]
           )
     ]
-
-pub returns-clause-each : goal.returns-clause-each
-returns-clause-each c =
-    all_settled c.args.wanted.now c.args.md5.now c.args.candidate.crc c.args.candidate.position c.args.found.now.items c.loop-place.found.items c.group-place-items.result.now c.group-place-items.ensures
-    c.loop-place.invariant.each (λ k h. c.loop-place.invariant.done k (omega (arith, h, c.loop-place-test.false)))

@@ -1,4 +1,4 @@
-use Rattle.par2_slices.proofs.Common.{◌≡◌, ◌∙◌, ◌≤◌, ◌++◌, ◌∷◌, [], ℕ, List, length, map, sym, ap, ap₂, subst, arith, Option, IfSome, option_map, length-map, map-append, map_more, take_all, All-push, Pair, first_position, found, no_pair, pair_at, AreShort, IsWithin, Window, padded_window, padded_windows, buffers_of, window_in}
+use Rattle.par2_slices.proofs.Common.{◌≡◌, ◌∙◌, ◌≤◌, ◌++◌, ◌∷◌, [], ℕ, List, length, map, sym, ap, ap₂, subst, Option, IfSome, option_map, map-append, map_more, All-push, Pair, first_position, found, no_pair, pair_at, AreShort, IsWithin, Window, padded_window, padded_windows, buffers_of, window_in}
 use Rattle.par2_slices.proofs.FoundWindows.{position_of_pair, position_found, position_within}
 use Rattle.par2_slices.proofs.windows.found_windows.Goals as goal
 
@@ -28,12 +28,3 @@ loop-position-preserved c =
           let IsShort : Window → Type 0 = λ w. IfSome w (λ bytes. length bytes.now ≤ s) in
           subst (λ (ws : List Window). AreShort s ws) (sym c.in_ok-push.ensures.items) (All-push IsShort c.loop-position.windows.items c.window_at.result c.loop-position.invariant.short c.window_at.ensures.short);
     }
-
-pub returns-clause-first : goal.returns-clause-first
-returns-clause-first c =
-    let s : ℕ = c.args.s in
-    let buffers : List (List ℕ) = buffers_of c.args.buffers.now in
-    let pairs : List Pair = c.args.pairs.now in
-    let count : length c.in_ok-positions.positions.items ≡ length pairs = ap length (c.in_ok-positions.ensures ∙ ap (map (first_position s buffers)) c.in_ok-wanted.ensures) ∙ length-map _ _ in
-    let items : length c.deref-position-items.result.now ≡ length c.in_ok-positions.positions.items = ap length c.deref-position-items.ensures.value in
-    c.loop-position.invariant.first ∙ ap (map (found s buffers)) (take_all c.loop-position.position-index pairs (omega (arith, count, items, c.loop-position-test.false)))

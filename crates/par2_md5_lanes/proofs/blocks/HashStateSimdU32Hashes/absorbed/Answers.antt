@@ -1,14 +1,7 @@
 use Rattle.par2_md5_lanes.proofs.Common.{◌*◌, arith, drop, take, rules, lane, slice_index, hash_behind, buffer_at}
 use Rattle.par2_md5_lanes.proofs.BlockLaws.{after_words}
 use Rattle.par2_md5_lanes.proofs.FeedLaws.{hash_one_more}
-use Rattle.par2_md5_lanes.proofs.SixteenLaws.{have_fewer}
 use Rattle.par2_md5_lanes.proofs.blocks.HashStateSimdU32Hashes.absorbed.Goals as goal
-
-pub read_words-requires : goal.read_words-requires
-read_words-requires g c = (omega (arith, c.requires.few), have_fewer _ _ _ c.args.buffers.now c.requires (omega (arith, c.loop-block-test.true)))
-
-pub compressed-after-requires : goal.compressed-after-requires
-compressed-after-requires g c = omega (arith, c.requires.few)
 
 pub loop-block-init : goal.loop-block-init
 unfolding hash_behind
@@ -20,6 +13,3 @@ loop-block-preserved g c = λ k low.
     let bytes = buffer_at c.args.buffers.now k in
     after_words _ _ _ _ (take 64 (drop (64 * block) bytes)) _ (c.compressed-after.ensures k low) (c.loop-block.invariant k low) (c.read_words.ensures k low)
     (hash_one_more (lane slice_index k c.args.self) bytes block)
-
-pub returns : goal.returns
-returns g c = grind (arith, hash_behind)

@@ -1,8 +1,7 @@
-use Rattle.par2_md5_lanes.proofs.Common.{◌*◌, ◌+◌, ◌-◌, ◌≡◌, ◌∙◌, ℕ, List, ap, sym, arith, refl, drop, length, take, block_words, slice_index, lane, hash_behind, buffer_at}
+use Rattle.par2_md5_lanes.proofs.Common.{◌*◌, ◌+◌, ◌-◌, ◌∙◌, ℕ, List, ap, arith, refl, drop, length, take, block_words, slice_index, lane, hash_behind, buffer_at}
 use Rattle.par2_md5_lanes.proofs.BlockLaws.{after_words}
 use Rattle.par2_md5_lanes.proofs.FeedLaws.{hash_one_more}
-use Rattle.par2_md5_lanes.specs.Lanes.{hash_of_sixteen}
-use Rattle.par2_md5_lanes.proofs.SixteenLaws.{each_of_sixteen, hash_of_high, hash_of_low, bytes_of_high, bytes_of_low, have_fewer, have_high, have_low}
+use Rattle.par2_md5_lanes.proofs.SixteenLaws.{bytes_of_high, bytes_of_low, have_fewer, have_high, have_low}
 use Rattle.par2_md5_lanes.proofs.blocks.SixteenHashes.absorbed.Goals as goal
 
 pub read_words-low-requires : goal.read_words-low-requires
@@ -35,15 +34,3 @@ loop-block-preserved c =
           (c.read_words-high.ensures k low ∙ ap words (bytes_of_high buffers (length buffers - 8) k (omega (arith, low, c.requires.enough))))
           (hash_one_more (lane slice_index k c.args.self.high) (buffer_at buffers (8 + k)) block);
     }
-
-pub returns : goal.returns
-returns c =
-    let start = c.args.self in
-    let buffers = c.args.buffers.now in
-    let blocks = c.args.blocks in
-    let all : c.loop-block.block ≡ blocks = omega (arith, c.loop-block-test.false) in
-    each_of_sixteen (λ (k : ℕ) (hash : List ℕ). hash ≡ hash_behind (hash_of_sixteen k start) (buffer_at buffers k) blocks) c.loop-block.after
-    (λ k low. c.loop-block.invariant.low k low ∙ ap (hash_behind (lane slice_index k start.low) (buffer_at buffers k)) all
-    ∙ ap (λ hash. hash_behind hash (buffer_at buffers k) blocks) (sym (hash_of_low start k low)))
-    (λ k low. c.loop-block.invariant.high k low ∙ ap (hash_behind (lane slice_index k start.high) (buffer_at buffers (8 + k))) all
-    ∙ ap (λ hash. hash_behind hash (buffer_at buffers (8 + k)) blocks) (sym (hash_of_high start k)))

@@ -1,14 +1,17 @@
-use Rattle.par2_md5_lanes.proofs.Common.{◌≤◌, ◌*◌, ◌∙◌, ap, arith, length, length-append, refl, take, take-take, at_hand, bytes_left, message_of}
+use Rattle.par2_md5_lanes.proofs.Common.{◌≤◌, ◌*◌, ◌∙◌, ap, arith, length, length-append, length-drop, refl, take, take-take, at_hand, bytes_left, message_of}
 use Rattle.par2_md5_lanes.proofs.TaskLaws.{blocks_more, left_blocks}
 use Rattle.par2_md5_lanes.proofs.tasks.LaneTask.take.Goals as goal
 
-pub returns-in-None-clause-leads : goal.returns-in-None-clause-leads
-returns-in-None-clause-leads c = λ hash last rest held.
+pub returns-in-None-clause-progress : goal.returns-in-None-clause-progress
+returns-in-None-clause-progress c hash =
     let task = c.args.self.now in
     let bytes = bytes_left task.feed in
     let n = c.args.count in
     let there : n * 64 ≤ length (at_hand task.feed) = left_blocks task.hash (at_hand task.feed) n c.in-None.is c.requires.blocks in
     let room : n * 64 ≤ length bytes = omega (arith, there, length-append (at_hand task.feed) (message_of task.feed.parts.now)) in
     let taken = c.take_at_hand in
-    blocks_more task.hash task.rest bytes (bytes_left taken.new.self) taken.result.now hash last rest n (n * 64) c.in-None.is refl room
-    (ap (take (n * 64)) taken.ensures.bytes ∙ take-take (n * 64) (n * 64) bytes (omega arith)) taken.ensures.rest held
+    record {
+      leads = λ last rest. blocks_more task.hash task.rest bytes (bytes_left taken.new.self) taken.result.now hash last rest n (n * 64) c.in-None.is refl room
+          (ap (take (n * 64)) taken.ensures.bytes ∙ take-take (n * 64) (n * 64) bytes (omega arith)) taken.ensures.rest;
+      shrinks = grind (arith, length-drop);
+    }

@@ -1,5 +1,4 @@
-use Rattle.par2_slices.proofs.Common.{◌≡◌, ◌∙◌, ℕ, rules, refl, List, length, subst, ap, arith, None, Option, Pair, Position, answer_at, IsTally}
-use Rattle.par2_slices.proofs.Groups.{replicate_at}
+use Rattle.par2_slices.proofs.Common.{◌≡◌, ℕ, rules, refl, List, length, subst, arith, Option, Pair, Position, IsTally}
 use Rattle.par2_slices.proofs.Searching.{IsFilled, filled_more, none_answered}
 use Rattle.par2_slices.proofs.search.Search.new.Goals as goal
 
@@ -10,19 +9,7 @@ returns-clause-tally c =
     let filled = c.in_ok-vec.ensures.items_if_clones_equal in
     subst (λ (ps : List Pair). IsTally ps found (length pairs) c.loop-pair.filter) c.pairs-pairs.ensures (none_answered pairs found (length pairs) c.loop-pair.filter (filled (λ y h. search rules)) refl (subst (λ (n : ℕ). IsFilled pairs n c.loop-pair.filter) (let e : c.loop-pair.pair-index ≡ length pairs = omega arith in e) c.loop-pair.invariant))
 
-pub returns-clause-open : goal.returns-clause-open
-returns-clause-open c i =
-    let filled = c.in_ok-vec.ensures.items_if_clones_equal in
-    ap (λ (found : List (Option Position)). answer_at found i) (filled (λ y h. search rules)) ∙ replicate_at (length c.pairs-pairs.result.now) i None
-
 pub loop-pair-preserved : goal.loop-pair-preserved
 loop-pair-preserved c =
     filled_more c.pairs-pairs.result.now c.loop-pair.pair-index c.loop-pair.filter c.insert.new.self c.loop-pair.invariant c.loop-pair-test.true _
     c.insert.ensures.shift c.insert.ensures.included c.insert.ensures.kept c.insert.ensures.only (search rules)
-
-pub loop-pair-init : goal.loop-pair-init
-loop-pair-init c = record {
-  included = λ k h. absurd (omega (arith, h));
-  only = λ crc is. absurd (c.in_ok-filter.ensures.empty crc is);
-  fine = c.in_ok-filter.ensures.fine;
-}

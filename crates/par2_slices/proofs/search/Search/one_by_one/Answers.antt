@@ -24,8 +24,3 @@ returns-then-is_finished c =
     let end : ℕ = c.args.end in
     subst (λ (o : ℕ). IsScannedTo c.args.scan.now o search.found.items search.left search.filter search.batch.items) (let e : o + (end - o) ≡ end = omega (arith, c.loop-offset-test.true) in e)
     (none_left c.args.scan.now o (end - o) search.found.items search.left search.filter search.batch.items c.loop-offset.invariant.at (c.is_finished.ensures.0 c.if-is_finished.true))
-
-pub returns-after-loop-offset : goal.returns-after-loop-offset
-returns-after-loop-offset c =
-    let search = c.loop-offset.self in
-    subst (λ (o : ℕ). IsScannedTo c.args.scan.now o search.found.items search.left search.filter search.batch.items) (let e : c.loop-offset.offset ≡ c.args.end = omega (arith, c.requires.from, c.loop-offset-test.false) in e) c.loop-offset.invariant.at

@@ -1,17 +1,7 @@
-use Rattle.par2_slices.proofs.Common.{◌-◌, ◌/◌, ◌^◌, ℕ, List, take, drop, subst, sym, ap, length, arith, Pair, HoldsGroup, PairPlace}
+use Rattle.par2_slices.proofs.Common.{◌-◌, ◌/◌, ◌^◌, ℕ, List, take, drop, subst, sym, arith, Pair, HoldsGroup, PairPlace}
 use Rattle.par2_slices.proofs.Groups.{within}
-use Rattle.par2_slices.proofs.Places.{ends_of, group_of, in_order}
+use Rattle.par2_slices.proofs.Places.{ends_of, group_of}
 use Rattle.par2_slices.proofs.wanted_pairs.Wanted.group.Goals as goal
-
-pub slice_bounds-result-count : goal.slice_bounds-result-count
-slice_bounds-result-count c =
-    let ends = ends_of _ _ (c.args.crc / 2 ^ 17) _ _ c.self.invariant.1 (within c.args.crc 17 c.ranges.crc.fits (omega arith)) c.index.ensures c.index-2.ensures in
-    omega (arith, in_order c.self.inside.places.items (c.args.crc / 2 ^ 17) c.index.result.now c.index-2.result.now ends.0 ends.1)
-
-pub slice_bounds-result-end : goal.slice_bounds-result-end
-slice_bounds-result-end c =
-    let ends = ends_of _ _ (c.args.crc / 2 ^ 17) _ _ c.self.invariant.1 (within c.args.crc 17 c.ranges.crc.fits (omega arith)) c.index.ensures c.index-2.ensures in
-    omega (arith, ends.1.bound, ap length c.deref.ensures.value)
 
 pub returns : goal.returns
 returns c =
