@@ -1,5 +1,5 @@
 -- The invariants of the loops that add products.
-use Rattle.par2_solve.proofs.Common.{ℕ, suc, ◌+◌, ◌*◌, ◌<◌, ◌≤◌, ◌≡◌, inl, inr, refl, sym, ap, ap₂, ◌∙◌, subst, arith, List, length, get_or, bit_xor, cases_lt, xor_assoc, xor_zero_r, get_or_past, product-zero, mul, word, list_at, field_sum, AddsSource, Adds, products}
+use Rattle.par2_solve.proofs.Common.{ℕ, suc, ◌+◌, ◌*◌, ◌<◌, ◌≡◌, inl, inr, refl, sym, ap, ap₂, ◌∙◌, arith, List, length, get_or, bit_xor, cases_lt, xor_assoc, xor_zero_r, get_or_past, product-zero, mul, word, list_at, field_sum, AddsSource, Adds, products}
 
 -- an empty source adds nothing
 pub empty_source : (factor : ℕ → ℕ) (source : List ℕ) (old : List (List ℕ)) (from to n : ℕ) → length source ≡ 0 → AddsSource factor source old old from to n
@@ -60,26 +60,3 @@ next_source factors sources old mid new from to n so_far added = record {
 
     more : (m : ℕ) (f : ℕ → ℕ) → bit_xor (field_sum m f) (f m) ≡ field_sum (m + 1) f
     more m f = let e : suc m ≡ m + 1 = omega arith in ap (λ x. field_sum x f) e
-
--- adjacent columns joined
-pub more_columns : (factors sources old mid new : List (List ℕ)) (a b d n : ℕ) → a ≤ b → b ≤ d → Adds factors sources old mid a b n → Adds factors sources mid new b d n
-    → Adds factors sources old new a d n
-more_columns factors sources old mid new a b d n ab bd first second = record {
-  count = second.count ∙ first.count;
-  sizes = λ r. second.sizes r ∙ first.sizes r;
-  inside = λ r p low from_here to_here fits. elim (cases_lt p b) [
-    | inl early ↦ second.below r p early ∙ first.inside r p low from_here early fits
-    | inr late ↦
-        second.inside r p (omega (arith, first.count)) late to_here (omega (arith, first.sizes r))
-        ∙ ap (λ x. bit_xor x (products n factors sources r p)) (first.above r p late)
-  ];
-  below = λ r p h. second.below r p (omega arith) ∙ first.below r p h;
-  above = λ r p h. second.above r p h ∙ first.above r p (omega arith);
-}
-
--- one block of columns more
-pub more_blocks : (factors sources old mid new : List (List ℕ)) (from to at next n : ℕ) → from ≡ at → to ≡ next → at ≤ next → Adds factors sources old mid 0 at n
-    → Adds factors sources mid new from to n → Adds factors sources old new 0 next n
-more_blocks factors sources old mid new from to at next n e f order first second =
-    more_columns factors sources old mid new 0 at next n (omega arith) order first
-    (subst (λ x. Adds factors sources mid new x next n) e (subst (λ x. Adds factors sources mid new from x n) f second))

@@ -2,7 +2,7 @@
 use Rattle.par2_solve.proofs.Common.{inl, inr, ℕ, ◌+◌, ◌-◌, ◌*◌, ◌<◌, ◌≤◌, ◌≡◌, refl, sym, ap, ◌∙◌, subst, arith, List, [], length, drop, get_or, map, bit_xor, zero-add, take, range_with_len, xor_zero_l, cases_lt, length-map, get_or-map, get_or-take, get_or-drop, get_or_past, length-take-le, length-drop, get_or-map-range_with_len, mul, coefficient, padded, word, coefficients, recovery, list_at, product_comm, product-one, word-lt, field_sum_same, within, place_at, AddsAt, AreApart, LieWithin, recovered, adds_more, adds_same, within-in, within_joined, within_same, length-group, adds_to_group, AreByteLists, products, all_coefficients, chunk, AreProducts}
 use Rattle.par2_transform.specs.declared.outputs.Place.{Place}
 use Rattle.par2_transform.proofs.AddingLaws.{first_word}
-use Rattle.par2_solve.specs.WrittenSlices.{output_at, AreWritten, AreZeros}
+use Rattle.par2_solve.specs.WrittenSlices.{AreWritten, AreZeros, output_at}
 use Rattle.par2_solve.proofs.Combinations.{blank_word, recovered_by_words}
 use Rattle.par2_solve.proofs.Solving.{word-window}
 

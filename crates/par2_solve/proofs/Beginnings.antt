@@ -1,5 +1,5 @@
 -- If the first exponents, as many as slices are lost, determine the lost slices, they are the kept ones.
-use Rattle.par2_solve.proofs.Common.{ℕ, zero, suc, ◌+◌, ◌-◌, ◌<◌, ◌≤◌, ◌≡◌, refl, sym, ap, ◌∙◌, subst, arith, Bool, true, false, cond, List, [], ◌∷◌, length, get_or, map, take, filter, Option, Some, None, AllByRecursion, Contains, range_with_len, IsStrictlyIncreasing, length-map, length-take, ext_get_or, get_or-take, length-take-le, take-map, Contains-get_or, length-range_with_len, get_or-range_with_len, kept, kept_slices, AreClose, HasRun, IsRepairable, is_independent, coefficients, all_from, all_get, all_unmap, filter-map, BeginsWithRun, lost_from, recovered_of, exponents_of, Bor}
+use Rattle.par2_solve.proofs.Common.{ℕ, zero, suc, ◌+◌, ◌-◌, ◌<◌, ◌≤◌, ◌≡◌, refl, sym, ap, ◌∙◌, subst, arith, Bool, true, false, cond, List, [], ◌∷◌, length, get_or, map, take, filter, Option, Some, None, AllByRecursion, range_with_len, IsStrictlyIncreasing, length-map, length-take, ext_get_or, get_or-take, length-take-le, take-map, length-range_with_len, get_or-range_with_len, kept, kept_slices, AreClose, IsRepairable, is_independent, coefficients, all_from, all_get, all_unmap, filter-map, BeginsWithRun, lost_from, recovered_of, exponents_of, Bor}
 use Rattle.std.proofs.lemmas.List.{take-take}
 use Rattle.std.proofs.lemmas.List.Sums.{count_by-le-length, length-filter}
 use Rattle.par2_spec.proofs.FullRank.{full-iff}
@@ -91,9 +91,6 @@ first_pass ks es rise within enough =
 
 count_first : (ks es : List ℕ) → IsStrictlyIncreasing es → IsRepairable ks (take (length ks) es) → length (kept ks es) ≡ length ks
 count_first ks es rise enough = (full-iff ks es rise).1 (more_determine ks es (length ks) enough)
-
-pub kept_first : (ks es : List ℕ) → IsStrictlyIncreasing es → length ks ≤ length es → IsRepairable ks (take (length ks) es) → kept ks es ≡ take (length ks) es
-kept_first ks es rise within enough = filter_first (is_kept ks es) (length ks) es (count_first ks es rise enough) (first_pass ks es rise within enough)
 
 pub kept_slices_first : (ks : List ℕ) (recs : List (ℕ × List ℕ)) → IsStrictlyIncreasing (map (λ r. r.0) recs) → length ks ≤ length (map (λ r. r.0) recs) → IsRepairable ks (take (length ks) (map (λ r. r.0) recs))
     → kept_slices ks (map (λ r. r.0) recs) recs ≡ take (length ks) recs

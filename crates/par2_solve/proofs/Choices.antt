@@ -8,8 +8,7 @@ use Rattle.par2_spec.specs.Rank as ranks
 use Rattle.par2_spec.specs.Laws.{TwoListsAgree}
 use Rattle.std.proofs.lemmas.Result.{IfErr-weaker}
 use Rattle.par2_spec.proofs.ListsLaws.{all-both}
-use Rattle.par2_solve.specs.Answers.{IsFaultOf}
-use Rattle.par2_solve.specs.Rebuilding.{AnotherAlwaysAgrees, IsNotRepairable, TwoAlwaysAgree}
+use Rattle.par2_solve.specs.Rebuilding.{AnotherAlwaysAgrees, IsFaultOf, IsNotRepairable, TwoAlwaysAgree}
 use Rattle.par2_solve.specs.declared.rebuild_slices.RebuildFault.{RebuildFault}
 use Rattle.par2_solve.specs.declared.rebuild_slices.RebuildFault.TheVariants.{NotRepairable, Memory}
 use Rattle.par2_solve.specs.declared.rebuild_slices.Survivors as code

@@ -1,5 +1,5 @@
 -- From added products to recovery slices.
-use Rattle.par2_solve.proofs.Common.{constant, pow, length-constant_powers, constant_powers, cases_lt, inl, inr, ℕ, zero, suc, ◌+◌, ◌-◌, ◌*◌, ◌%◌, ◌<◌, ◌≤◌, ◌≡◌, refl, sym, ap, ap₂, ◌∙◌, subst, arith, List, [], ◌∷◌, ◌++◌, length, get_or, map, replicate, Vec, Global, zero-add, Bor, range_with_len, get_or-map, length-map, length_push, map_push, get_or_append_left, get_or_push, get_or_past, get_or-map-range_with_len, length-map-range_with_len, length-range_with_len, get_or-range_with_len, mul, coefficient, padded, word, dot, coefficients, combination, recovery, all_at, product-lt, field_sum, list_at, lists_of, field_sum_same, field_sum-lt, dot_sum, product_at, coefficients_are, combination_words, word-lt, AreByteLists, recovered, zeros_read, all_coefficients, buffers_of, AreBlank}
+use Rattle.par2_solve.proofs.Common.{constant, pow, length-constant_powers, constant_powers, ℕ, zero, suc, ◌+◌, ◌-◌, ◌*◌, ◌%◌, ◌<◌, ◌≤◌, ◌≡◌, refl, sym, ap, ap₂, ◌∙◌, subst, arith, List, [], ◌∷◌, ◌++◌, length, get_or, map, replicate, Vec, Global, zero-add, Bor, range_with_len, get_or-map, length-map, get_or_past, get_or-map-range_with_len, length-map-range_with_len, length-range_with_len, mul, coefficient, padded, word, dot, coefficients, combination, recovery, all_at, product-lt, field_sum, list_at, lists_of, field_sum_same, field_sum-lt, dot_sum, product_at, coefficients_are, combination_words, word-lt, AreByteLists, recovered, zeros_read, all_coefficients, buffers_of}
 
 -- ---- padding
 
@@ -53,29 +53,6 @@ recovered-lt lists e w bytes =
 
 -- ---- recovery slices
 
--- one list more
-pub lists_push : (xs : List (Vec ℕ Global)) (x : Vec ℕ Global) {new : List (Vec ℕ Global)} {before : List (List ℕ)} {list : List ℕ} → new ≡ xs ++ x ∷ [] → lists_of xs ≡ before → x.items ≡ list
-    → lists_of new ≡ before ++ list ∷ []
-lists_push xs x pushed so_far is =
-    ap (λ (vs : List (Vec ℕ Global)). lists_of vs) pushed ∙ map_push (λ (v : Vec ℕ Global). v.items) xs x ∙ ap₂ (λ (ls : List (List ℕ)) l. ls ++ l ∷ []) so_far is
-
--- what holds of each of n lists and of one more holds of each of n + 1
-pub each_push : (P : ℕ → List ℕ → Type 0) (xs : List (Vec ℕ Global)) (x : Vec ℕ Global) (n : ℕ) → length (lists_of xs) ≡ n → ((r : ℕ) → r < n → P r (list_at (lists_of xs) r)) → P n x.items
-    → (length (lists_of (xs ++ x ∷ [])) ≡ n + 1) × ((r : ℕ) → r < n + 1 → P r (list_at (lists_of (xs ++ x ∷ [])) r))
-each_push P xs x n count each here =
-    rw (map_push (λ (v : Vec ℕ Global). v.items) xs x) (length_push (lists_of xs) x.items ∙ ap (λ m. m + 1) count, all)
-  where
-    all : (r : ℕ) → r < n + 1 → P r (list_at (lists_of xs ++ x.items ∷ []) r)
-    all r h = elim (cases_lt r n) [
-      | inl low ↦ subst (P r) (sym (get_or_append_left (lists_of xs) (x.items ∷ []) [] r (omega (arith, low, count)))) (each r low)
-      | inr high ↦
-          let last : n ≡ r = omega (arith, h, high) in
-          subst (λ m. P m (list_at (lists_of xs ++ x.items ∷ []) m)) last (subst (P n) (sym (get_or_push (lists_of xs) x.items [] n count)) here)
-    ]
-
-pub blank_push : (s n : ℕ) (xs : List (Vec ℕ Global)) (v : Vec ℕ Global) → AreBlank s n (lists_of xs) → v.items ≡ replicate s 0 → AreBlank s (n + 1) (lists_of (xs ++ v ∷ []))
-blank_push s n xs v so_far is = let all = each_push (λ _ bytes. bytes ≡ replicate s 0) xs v n so_far.count so_far.each is in record { count = all.0; each = all.1 }
-
 pub blank_word : (s p : ℕ) → word p (replicate s 0) ≡ 0
 blank_word s p = ap₂ (λ x y. x + 256 * y) (zeros_read s (2 * p)) (zeros_read s (2 * p + 1))
 
@@ -95,12 +72,6 @@ recovered_by_words s e lists content even bytes size fits words =
     dots w = ap (dot row) (words_padded s w lists) ∙ recovered_dot e lists w
 
 -- ---- rows of factors
-
-pub range-lt : (n i bound : ℕ) → n ≤ bound → 0 < bound → get_or (range_with_len 0 n) i 0 < bound
-range-lt n i bound h some = elim (cases_lt i n) [
-  | inl low ↦ (let e = get_or-range_with_len 0 n i 0 low in omega (arith, e))
-  | inr high ↦ (let e = get_or_past (range_with_len 0 n) i 0 (omega (arith, length-range_with_len 0 n)) in omega (arith, e))
-]
 
 pub length-rows : (n : ℕ) (exponents : List ℕ) (xs : List (Vec ℕ Global)) → lists_of xs ≡ all_coefficients n exponents → length xs ≡ length exponents
 length-rows n exponents xs e = sym (length-map xs (λ (x : Vec ℕ Global). x.items)) ∙ ap length e ∙ length-map exponents (coefficients (range_with_len 0 n))

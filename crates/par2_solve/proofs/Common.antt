@@ -20,14 +20,9 @@ pub use Rattle.std.specs.Prelude.{IfErr, IfSome, IsNone, IsPermutation, None, Ok
 pub use Rattle.std.specs.Vec.{with_items}
 pub use Rattle.par2_matrix.specs.Systems.{AreSolutionBuffers, CutDown, Equations, IsDependent, IsIndependent, IsTheSolution, OnlyZeroIsKilled, Solves}
 pub use Rattle.par2_matrix.specs.declared.system.Offer.TheVariants.{Dependent, Kept}
-pub use Rattle.par2_solve.specs.Elements.{AreByteRows, IsUnit}
-pub use Rattle.par2_solve.specs.Inverses.{CutByUnit, IsEliminated, IsInverseMatrix, identity, recovery_at}
-pub use Rattle.par2_solve.specs.Products.{Adds, AddsSource, AreByteLists, products}
-pub use Rattle.par2_solve.specs.Rebuilding.{AreRebuilt, CanRebuild, known_among}
-pub use Rattle.par2_solve.specs.RunInverses.{AreScaledQuotients, BeginsWithRun, IsScaledQuotient}
-pub use Rattle.par2_solve.specs.Survivors.{IsTrueFault, bytes_or_none, exponents_of, known_alone, known_of, lost_from, recovered_of, with_lost_slices}
-pub use Rattle.par2_solve.specs.Syndromes.{AreExtended, AreProducts, AreRun, AreSolved, all_coefficients, syndrome, chunk}
-pub use Rattle.par2_solve.specs.BufferContents.{AreBlank, buffers_of}
+pub use Rattle.par2_solve.specs.Inverses.{AreByteRows, AreScaledQuotients, BeginsWithRun, IsEliminated, IsInverseMatrix, IsScaledQuotient, IsUnit, identity, recovery_at}
+pub use Rattle.par2_solve.specs.BufferContents.{Adds, AddsSource, AreBlank, AreByteLists, AreExtended, AreProducts, AreRun, AreSolved, AreSums, all_coefficients, buffers_of, chunk, products, syndrome}
+pub use Rattle.par2_solve.specs.Rebuilding.{AreRebuilt, CanRebuild, IsTrueFault, bytes_or_none, exponents_of, known_alone, known_among, known_of, lost_from, recovered_of, with_lost_slices}
 pub use Rattle.par2_spec.proofs.FieldConstants.{constant-injective, constant-lt, constant-nonzero, length-constant_powers}
 pub use Rattle.par2_spec.proofs.FieldOrder.{no_zero_divisor, power-lt, product-zero, zero-product}
 pub use Rattle.par2_spec.proofs.FieldProducts.{product-lt, product-one, product_assoc, product_comm, product_linear_left, product_linear_right}

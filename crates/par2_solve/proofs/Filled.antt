@@ -1,173 +1,288 @@
--- The inverse over holes, from the holes' inverse and a locator, and its products.
-use Rattle.par2_solve.proofs.Common.{ℕ, ◌+◌, ◌<◌, ◌≡◌, sym, ap, ◌∙◌, subst, arith, List, [], length, get_or, get_or-take, map, get_or-map, length-map, length-take-le, take, range_with_len, IsStrictlyIncreasing, IsVector, IsRepairable, AreSlices, AreByteLists, AreProducts, word, list_at, lists_of, length-lists_of, IsInverseMatrix}
-use Rattle.par2_solve.specs.Filling.{matrix_product, identity_rows, from_origin, origin_at, count_of, falling, filled_rows, from_last, hole_rows, known_rows, numerator_rows, run_rows, window_rows, AreOrigins, IsFilled, IsOriginAt, HasRoomFor}
-use Rattle.par2_solve.specs.Holes.{AreHoleInverse, holes, locator, span}
-use Rattle.par2_solve.specs.Located.{located_rows}
-use Rattle.par2_solve.specs.Solvers.{Inverts}
+-- The products of the inverse over holes solve the equations of the exponents.
+use Rattle.par2_solve.proofs.Common.{ℕ, zero, suc, ◌+◌, ◌-◌, ◌*◌, ◌^◌, ◌<◌, ◌≤◌, ◌≡◌, refl, sym, ap, ap₂, ◌∙◌, subst, arith, true, false, false≢true, not, cond, inl, inr, cases_lt, le-ltb, List, [], length, get_or, get_or-take, take, map, length-map, length-reverse, get_or_past, get_or-map, get_or-reverse, get_or-map-range_with_len, length-map-range_with_len, get_or-range_with_len, length-take-le, range_with_len, bit_xor, xor_comm, xor_zero_l, AllByRecursion, Contains, Contains-get_or, mul, constant, coefficients, dot, dot-lt, coefficients_are, product_comm, product-one, field_sum, field_sum_same, field_sum_head, GivesElements, slice_index, all_at, dot_sum, product_at, identity, list_at, lists_of, word, word-lt, words_are, AreByteLists, AreProducts, AreSums, AreSolved, products, all_from}
+use Rattle.std.specs.Prelude.{reverse}
+use Rattle.std.specs.Int.Bits.{xor_self}
+use Rattle.par2_spec.proofs.PolynomialLaws.{with_roots_monic}
+use Rattle.par2_spec.proofs.SumLaws.{xor_same}
+use Rattle.par2_transform.specs.Columns.{words_at}
+use Rattle.par2_solve.specs.Inverses.{IsFillingFor, IsOriginAt, falling, from_origin, holes, is_hole, known_window, locator, origin_at, right_side, shifted, shifted_at, span}
 use Rattle.par2_solve.specs.declared.filling.Filling.{Filling}
 use Rattle.par2_solve.specs.declared.filling.Origin.{Origin}
 use Rattle.par2_solve.specs.declared.filling.Origin.TheVariants.{Exponent, Hole}
-use Rattle.par2_solve.specs.declared.solver.Inverse.TheVariants.{Filled, Located}
-use Rattle.par2_solve.proofs.Fillings.{filled_inverse}
-use Rattle.par2_solve.proofs.Locating.{located_long}
-use Rattle.par2_solve.proofs.Matrices.{HasElements, rows_elements, length-product, product_vector, identity_vector, products_joined, run_words}
-use Rattle.par2_solve.proofs.RightSides.{falling_long, from_last_long, known_is, numerator_elements, numerator_long, window_elements, window_long, window_words}
-use Rattle.par2_solve.proofs.Windows.{holes_determine}
+use Rattle.par2_solve.proofs.Dots.{combined}
+use Rattle.par2_solve.proofs.Fillings.{shifted_vector, same_values, locator_elements, locator_long}
+use Rattle.par2_solve.proofs.Inverting.{sum_of_row}
+use Rattle.par2_solve.proofs.Runs.{rises_between, rises_differ}
+use Rattle.par2_solve.proofs.RunInverses.{constants-lt}
+use Rattle.par2_solve.proofs.Windows.{below, shifted_sum, window_dot, window_parted, none_given, filter_all, range_all, unset, others, given, recurrence, hole_place, exponent_no_hole, holes_rise}
+
+-- ---- sequences that satisfy a recurrence
+
+-- from each of the first n numbers on, the next l + 1 items, each times its coefficient, add up to 0
+abbrev Recurs : (p : ℕ → ℕ) (l n : ℕ) (g : ℕ → ℕ) → Type 0
+Recurs p l n g = (u : ℕ) → u < n → field_sum (suc l) (λ k. mul (p k) (g (u + k))) ≡ 0
+
+next_item : (p g : ℕ → ℕ) (l n u : ℕ) → p l ≡ 1 → GivesElements g → Recurs p l n g → u < n → field_sum l (λ k. mul (p k) (g (u + k))) ≡ g (u + l)
+unfolding field_sum
+next_item p g l n u one are recurs low =
+    xor_same (field_sum l (λ k. mul (p k) (g (u + k)))) (mul (p l) (g (u + l))) (recurs u low)
+    ∙ ap (λ c. mul c (g (u + l))) one ∙ product_comm 1 (g (u + l)) (omega arith) (are (u + l)) ∙ product-one (g (u + l)) (are (u + l))
+
+-- two such sequences that begin alike are alike
+alike : (p g h : ℕ → ℕ) (l n : ℕ) → p l ≡ 1 → GivesElements g → GivesElements h → Recurs p l n g → Recurs p l n h → ((x : ℕ) → x < l → g x ≡ h x) → (m x : ℕ) → x < m → x < n + l → g x ≡ h x
+alike p g h l n one g_are h_are g_recurs h_recurs first zero x low within = absurd (omega (arith, low))
+alike p g h l n one g_are h_are g_recurs h_recurs first (suc m) x low within = elim (cases_lt x l) [
+  | inl early ↦ first x early
+  | inr late ↦
+      let u = x - l in
+      let same : u + l ≡ x = omega (arith, late) in
+      let here : u < n = omega (arith, late, within) in
+      subst (λ y. g y ≡ h y) same
+      (sym (next_item p g l n u one g_are g_recurs here)
+      ∙ field_sum_same l (λ k. mul (p k) (g (u + k))) (λ k. mul (p k) (h (u + k)))
+      (λ k hk. ap (mul (p k)) (alike p g h l n one g_are h_are g_recurs h_recurs first m (u + k) (omega (arith, hk, same, low)) (omega (arith, hk, same, within))))
+      ∙ next_item p h l n u one h_are h_recurs here)
+]
+
+-- the order of a sum doesn't matter
+reversed : (n : ℕ) (f : ℕ → ℕ) → field_sum n (λ s. f (n - 1 - s)) ≡ field_sum n f
+unfolding field_sum
+reversed zero f = refl
+reversed (suc n) f =
+    field_sum_head n (λ s. f (suc n - 1 - s))
+    ∙ ap₂ bit_xor (ap f (let e : suc n - 1 - 0 ≡ n = omega arith in e))
+    (field_sum_same n (λ s. f (suc n - 1 - suc s)) (λ s. f (n - 1 - s)) (λ s _. ap f (let e : suc n - 1 - suc s ≡ n - 1 - s = omega arith in e)) ∙ reversed n f)
+    ∙ xor_comm (f n) (field_sum n f)
+
+-- ---- the falling coefficients
+
+pub falling_long : (p : List ℕ) (w : ℕ) → length (falling p w) ≡ w
+falling_long p w = length-reverse (map (slice_index p) (range_with_len 0 w)) ∙ length-map-range_with_len (slice_index p) 0 w
+
+-- those from place w - 1 - y on are the coefficients of the polynomial times a power of z at y
+falling_shifted : (p : List ℕ) (w u y : ℕ) → y < w → get_or (falling p w) (w - 1 - y + u) 0 ≡ shifted_at p u y
+falling_shifted p w u y low = elim (cases_lt y u) [
+  | inl before ↦ get_or_past (falling p w) (w - 1 - y + u) 0 (let long = falling_long p w in omega (arith, low, before, long)) ∙ sym (below p u y before)
+  | inr high ↦
+      let many = length-map-range_with_len (slice_index p) 0 w in
+      let i = w - 1 - y + u in
+      get_or-reverse (map (slice_index p) (range_with_len 0 w)) i 0 (omega (arith, low, high, many))
+      ∙ ap (λ m. get_or (map (slice_index p) (range_with_len 0 w)) (m - 1 - i) 0) many
+      ∙ get_or-map-range_with_len (slice_index p) 0 w (w - 1 - i) (y - u) 0 (omega (arith, low, high)) (omega (arith, low, high))
+      ∙ sym (ap (λ b. cond b 0 (get_or p (y - u) 0)) (le-ltb y u high))
+]
+
+-- ---- the syndromes of the window, at one word
+
+module _ (ks es : List ℕ) (filling : Filling) (is : IsFillingFor ks es filling) (some : 0 < length es) (sources right filled : List (List ℕ)) (source_bytes : AreByteLists sources) (right_bytes : AreByteLists right) (filled_bytes : AreByteLists filled)
+    (w : ℕ) (right_is : (u : ℕ) → u < filling.equations.count → word w (list_at right u) ≡ right_side filling sources w u)
+    (filled_is : (q : ℕ) → q < length (holes es) → word w (list_at filled q) ≡ products filling.equations.count (lists_of filling.holes.items) right q w) where
+  abbrev n : ℕ
+  n = filling.equations.count
+
+  abbrev width : ℕ
+  width = span es + 1
+
+  abbrev p : List ℕ
+  p = locator ks
+
+  abbrev origin : ℕ → Origin
+  origin = origin_at filling.origins.items
+
+  -- the word of the syndrome of a number, and the same with none for the holes
+  abbrev syndrome_at : ℕ → ℕ
+  syndrome_at x = word w (from_origin sources filled (origin x))
+
+  abbrev known_at : ℕ → ℕ
+  known_at x = word w (from_origin sources [] (origin x))
+
+  syndrome_elements : GivesElements syndrome_at
+  syndrome_elements x = of_origin (origin x)
+    where
+      of_origin : (o : Origin) → word w (from_origin sources filled o) < 65536
+      of_origin (Exponent j) = word-lt (list_at sources j) w (source_bytes j)
+      of_origin (Hole q) = word-lt (list_at filled q) w (filled_bytes q)
+
+  -- an exponent's origin is no hole, and a hole's is no exponent
+  no_exponent : (x j : ℕ) → is_hole es x ≡ true → IsOriginAt es x (Exponent j) → ⊥
+  no_exponent x j hole h = false≢true (sym (exponent_no_hole es x (subst (Contains es) h.1 (Contains-get_or es j 0 h.0))) ∙ hole)
+
+  no_hole_origin : (x q : ℕ) → is_hole es x ≡ false → IsOriginAt es x (Hole q) → ⊥
+  no_hole_origin x q other h = false≢true (sym other ∙ ap (is_hole es) (sym h.1) ∙ (hole_place es q h.0).1)
+
+  none_known : (x : ℕ) → x < span es + 1 → is_hole es x ≡ true → known_at x ≡ 0
+  none_known x low hole = of_origin (origin x) (is.origins.each x low)
+    where
+      nothing : (q i : ℕ) → get_or (list_at [] q) i 0 ≡ 0
+      nothing q i = ap (λ xs. get_or xs i 0) (get_or_past [] q [] (omega arith)) ∙ get_or_past [] i 0 (omega arith)
+
+      of_origin : (o : Origin) → IsOriginAt es x o → word w (from_origin sources [] o) ≡ 0
+      of_origin (Exponent j) h = absurd (no_exponent x j hole h)
+      of_origin (Hole q) h = ap₂ (λ a b. a + 256 * b) (nothing q (2 * w)) (nothing q (2 * w + 1))
+
+  all_known : (x : ℕ) → x < span es + 1 → is_hole es x ≡ false → known_at x ≡ syndrome_at x
+  all_known x low other = of_origin (origin x) (is.origins.each x low)
+    where
+      of_origin : (o : Origin) → IsOriginAt es x o → word w (from_origin sources [] o) ≡ word w (from_origin sources filled o)
+      of_origin (Exponent j) h = refl
+      of_origin (Hole q) h = absurd (no_hole_origin x q other h)
+
+  filled_at : (q : ℕ) → q < length (holes es) → syndrome_at (get_or (holes es) q 0) ≡ word w (list_at filled q)
+  filled_at q low = of_origin (origin x) (is.origins.each x (omega (arith, place.0)))
+    where
+      x : ℕ
+      x = get_or (holes es) q 0
+
+      place : (get_or (holes es) q 0 < span es) × (is_hole es (get_or (holes es) q 0) ≡ true)
+      place = hole_place es q low
+
+      of_origin : (o : Origin) → IsOriginAt es (get_or (holes es) q 0) o → word w (from_origin sources filled o) ≡ word w (list_at filled q)
+      of_origin (Exponent j) h = absurd (no_exponent x j place.1 h)
+      of_origin (Hole r) h = ap (λ i. word w (list_at filled i)) (rises_differ (holes es) (holes_rise es) r q h.0 low h.1)
+
+  source_at : (x j : ℕ) → x < span es + 1 → j < length es → get_or es 0 0 + x ≡ get_or es j 0 → syndrome_at x ≡ word w (list_at sources j)
+  source_at x j low within same = of_origin (origin x) (is.origins.each x low)
+    where
+      of_origin : (o : Origin) → IsOriginAt es x o → word w (from_origin sources filled o) ≡ word w (list_at sources j)
+      of_origin (Exponent i) h = ap (λ k. word w (list_at sources k)) (rises_differ es is.rise i j h.0 within (h.1 ∙ same))
+      of_origin (Hole q) h = absurd (no_hole_origin x q (exponent_no_hole es x (subst (Contains es) (sym same) (Contains-get_or es j 0 within))) h)
+
+  -- a right-hand side is the sum over the exponents
+  right_others : (u : ℕ) → u < filling.equations.count → word w (list_at right u) ≡ dot (map (shifted_at (locator ks) u) (others es)) (map syndrome_at (others es))
+  right_others u low =
+      right_is u low
+      ∙ ap (λ sequence. field_sum (length sequence) (λ s. mul (get_or sequence (s + u) 0) (words_at window w s))) is.sequence
+      ∙ ap (λ m. field_sum m (λ s. mul (get_or falls (s + u) 0) (words_at window w s))) (falling_long p width)
+      ∙ field_sum_same width (λ s. mul (get_or falls (s + u) 0) (words_at window w s)) (λ s. mul (a (width - 1 - s)) (known_at (width - 1 - s))) (λ s hs. ap₂ mul
+      (ap (λ i. get_or falls i 0) (let e : s + u ≡ width - 1 - (width - 1 - s) + u = omega (arith, hs) in e) ∙ falling_shifted p width u (width - 1 - s) (omega (arith, hs)))
+      (ap (word w)
+      (get_or-map (from_origin sources []) (reverse items) s (Exponent 0) [] (let long = length-reverse items in omega (arith, hs, long, many))
+      ∙ ap (from_origin sources []) (get_or-reverse items s (Exponent 0) (omega (arith, hs, many)) ∙ ap (λ m. origin_at items (m - 1 - s)) many))))
+      ∙ reversed width (λ y. mul (a y) (known_at y))
+      ∙ sym (window_dot a known_at width)
+      ∙ window_parted es a known_at is.rise some
+      ∙ ap (λ x. bit_xor x (dot (map a (others es)) (map known_at (others es)))) (none_given a known_at (holes es) at_holes)
+      ∙ xor_zero_l (dot (map a (others es)) (map known_at (others es)))
+      ∙ ap (dot (map a (others es))) (same_values known_at syndrome_at (others es) at_others)
+    where
+      items : List Origin
+      items = filling.origins.items
+
+      many : length filling.origins.items ≡ span es + 1
+      many = is.origins.count
+
+      window : List (List ℕ)
+      window = known_window filling.origins.items sources
+
+      falls : List ℕ
+      falls = falling (locator ks) (span es + 1)
+
+      a : ℕ → ℕ
+      a = shifted_at (locator ks) u
+
+      at_holes : AllByRecursion (λ y. known_at y ≡ 0) (holes es)
+      at_holes = filter_all (λ y. known_at y ≡ 0) (is_hole es) (range_with_len 0 (span es)) (range_all (λ y. is_hole es y ≡ true → known_at y ≡ 0) (span es) (λ y hy e. none_known y (omega (arith, hy)) e))
+
+      at_others : AllByRecursion (λ y. known_at y ≡ syndrome_at y) (others es)
+      at_others = filter_all (λ y. known_at y ≡ syndrome_at y) (λ y. not (is_hole es y)) (range_with_len 0 (span es + 1)) (range_all (λ y. not (is_hole es y) ≡ true → known_at y ≡ syndrome_at y) (span es + 1) (λ y hy e. all_known y hy (unset (is_hole es y) e)))
+
+  -- and that over the holes
+  right_holes : (u : ℕ) → u < filling.equations.count → dot (map (shifted_at (locator ks) u) (holes es)) (map syndrome_at (holes es)) ≡ word w (list_at right u)
+  right_holes u low =
+      dot_sum h (map a hs) (map syndrome_at hs) (let long = length-map hs a in omega (arith, long))
+      ∙ field_sum_same h (product_at (map a hs) (map syndrome_at hs)) (λ q. mul (get_or (map a hs) q 0) (field_sum n (λ v. mul (x q v) (b v)))) (λ q hq. ap (mul (get_or (map a hs) q 0)) (get_or-map syndrome_at hs q 0 0 hq ∙ filled_at q hq ∙ filled_is q hq))
+      ∙ combined h n (λ q. get_or (map a hs) q 0) x b (all_at (λ c. c < 65536) 0 (omega arith) (shifted p u hs) (shifted_vector p hs u (locator_elements ks)).1) (λ q hq. all_at (λ c. c < 65536) 0 (omega arith) (list_at (lists_of filling.holes.items) q) (is.holes.vectors q hq).1) b_elements
+      ∙ field_sum_same n (λ v. mul (field_sum h (λ q. mul (get_or (map a hs) q 0) (x q v))) (b v)) (λ v. mul (identity u v) (b v)) (λ v hv. ap (λ z. mul z (b v)) (is.holes.product u v low hv))
+      ∙ sum_of_row n u b low b_elements
+    where
+      hs : List ℕ
+      hs = holes es
+
+      h : ℕ
+      h = length (holes es)
+
+      a : ℕ → ℕ
+      a = shifted_at (locator ks) u
+
+      x : ℕ → ℕ → ℕ
+      x q v = get_or (list_at (lists_of filling.holes.items) q) v 0
+
+      b : ℕ → ℕ
+      b v = word w (list_at right v)
+
+      b_elements : GivesElements b
+      b_elements v = word-lt (list_at right v) w (right_bytes v)
+
+  -- so the syndromes of the window satisfy the locator's recurrence
+  window_recurs : Recurs (slice_index (locator ks)) (length ks) filling.equations.count syndrome_at
+  window_recurs u low =
+      ap (λ m. field_sum m (λ k. mul (get_or p k 0) (syndrome_at (u + k)))) (sym long)
+      ∙ sym (shifted_sum p u width syndrome_at (let fit = is.fit in let square = is.square in omega (arith, long, low, fit, square)))
+      ∙ window_parted es (shifted_at p u) syndrome_at is.rise some
+      ∙ ap₂ bit_xor (right_holes u low) (sym (right_others u low))
+      ∙ xor_self (word w (list_at right u))
+    where
+      long : length (locator ks) ≡ suc (length ks)
+      long = locator_long ks
+
+  -- and a vector that solves the equations of the run solves those of the exponents
+  pub window_solved : (v : List ℕ) → AllByRecursion (λ y. y < 2 ^ 16) v → ((x : ℕ) → x < length ks → given ks v (get_or es 0 0 + x) ≡ syndrome_at x) → (j : ℕ) → j < length ks → given ks v (get_or es j 0) ≡ word w (list_at sources j)
+  window_solved v elements run j low =
+      ap (given ks v) (sym back)
+      ∙ alike (slice_index p) given_here syndrome_at (length ks) n monic (λ y. dot-lt (coefficients ks (f + y)) v (coefficients_are (f + y) ks) elements) syndrome_elements
+      (λ u hu. ap (λ m. field_sum m (λ k. mul (get_or p k 0) (given ks v (f + (u + k))))) (sym (locator_long ks))
+      ∙ field_sum_same (length p) (λ k. mul (get_or p k 0) (given ks v (f + (u + k)))) (λ k. mul (get_or p k 0) (given ks v (f + u + k))) (λ k _. ap (λ e. mul (get_or p k 0) (given ks v e)) (let e : f + (u + k) ≡ f + u + k = omega arith in e))
+      ∙ recurrence ks v (f + u) elements)
+      window_recurs run (suc x) x (omega arith) (let fit = is.fit in omega (arith, within, fit, square))
+      ∙ source_at x j within here back
+    where
+      f : ℕ
+      f = get_or es 0 0
+
+      x : ℕ
+      x = get_or es j 0 - get_or es 0 0
+
+      given_here : ℕ → ℕ
+      given_here y = given ks v (f + y)
+
+      square : length es ≡ length ks
+      square = is.square
+
+      here : j < length es
+      here = omega (arith, low, square)
+
+      back : get_or es 0 0 + (get_or es j 0 - get_or es 0 0) ≡ get_or es j 0
+      back = let by = rises_between es is.rise 0 j (omega arith) here in omega (arith, by)
+
+      within : get_or es j 0 - get_or es 0 0 < span es + 1
+      within =
+          let last = rises_between es is.rise j (length es - 1) (omega (arith, here)) (omega (arith, some)) in
+          omega (arith, last)
+
+      monic : get_or (locator ks) (length ks) 0 ≡ 1
+      monic = ap (λ m. get_or (locator ks) m 0) (sym (length-map ks constant)) ∙ with_roots_monic (map constant ks) (constants-lt ks)
 
 -- ---- the products
 
-hole_elements : (filling : Filling) (n : ℕ) → IsFilled n filling → HasElements (lists_of filling.holes.items)
-hole_elements filling n is = rows_elements (lists_of filling.holes.items) filling.equations.count (λ q low. is.holes q (let many = length-lists_of filling.holes.items in omega (arith, low, many)))
-
-numerators_fit : (filling : Filling) → HasElements (numerator_rows filling.equations.count filling.equations.sequence.items)
-numerators_fit filling = numerator_elements filling.equations.count filling.equations.sequence.items filling.equations.elements
-
-known_fit : (filling : Filling) → HasElements (known_rows filling)
-known_fit filling =
-    rows_elements (known_rows filling) (count_of filling)
-    (λ u low. product_vector (length filling.origins.items) (count_of filling) (numerator_rows filling.equations.count filling.equations.sequence.items) (window_rows (count_of filling) filling.origins.items) u
-    (let many = length-product (length filling.origins.items) (count_of filling) (numerator_rows filling.equations.count filling.equations.sequence.items) (window_rows (count_of filling) filling.origins.items) in omega (arith, low, many))
-    (numerators_fit filling) (window_elements (count_of filling) filling.origins.items))
-
-pub known_rows_long : (filling : Filling) → length (known_rows filling) ≡ filling.equations.count
-known_rows_long filling =
-    length-product (length filling.origins.items) (count_of filling) (numerator_rows filling.equations.count filling.equations.sequence.items) (window_rows (count_of filling) filling.origins.items)
-    ∙ numerator_long filling.equations.count filling.equations.sequence.items
-
-hole_rows_long : (filling : Filling) → length (hole_rows filling) ≡ length filling.holes.items
-hole_rows_long filling = length-product filling.equations.count (count_of filling) (lists_of filling.holes.items) (known_rows filling) ∙ length-lists_of filling.holes.items
-
-pub filled_long : (filling : Filling) → length (filled_rows filling) ≡ length filling.locator.points.items
-filled_long filling =
-    length-product (count_of filling) (count_of filling) (located_rows filling.locator) (run_rows filling)
-    ∙ located_long filling.locator.numerators.sequence.items filling.locator.points.items filling.locator.factors.items
-
--- the sums of the window's syndromes are the right-hand sides
-pub sides_made : (filling : Filling) (n size : ℕ) (buffers window sums : List (List ℕ)) → IsFilled n filling → length buffers ≡ n → AreByteLists buffers
-    → window ≡ from_last (from_origin buffers []) filling.origins.items → AreProducts size (numerator_rows filling.equations.count filling.equations.sequence.items) window sums
-    → AreProducts size (known_rows filling) buffers sums
-sides_made filling n size buffers window sums is count bytes window_is are =
-    subst (λ m. AreProducts size (matrix_product (length origins) m rows (window_rows m origins)) buffers sums) (count ∙ sym is.count)
-    (subst (λ w. AreProducts size (matrix_product w (length buffers) rows (window_rows (length buffers) origins)) buffers sums) (window_long (length buffers) origins)
-    (products_joined size rows (window_rows (length buffers) origins) buffers window sums (numerators_fit filling) (window_elements (length buffers) origins) bytes
-    (ap length window_is ∙ from_last_long (from_origin buffers []) origins ∙ sym (window_long (length buffers) origins))
-    (λ s w low fits.
-    ap (λ rs. word w (list_at rs s)) window_is
-    ∙ window_words origins buffers (length filling.holes.items) bytes
-    (λ x here. subst (λ m. HasRoomFor m (length filling.holes.items) (origin_at origins x)) (sym count) (is.origins x here)) s w (let long = window_long (length buffers) origins in omega (arith, low, long)))
-    are))
+pub filled_solve : (ks es : List ℕ) (filling : Filling) (size : ℕ) (sources right filled run sums : List (List ℕ)) → IsFillingFor ks es filling → length sources ≡ length ks
+    → AreByteLists sources → AreByteLists right → AreByteLists filled → AreByteLists sums → AreSums size filling.equations.count (right_side filling sources) right → AreProducts size (lists_of filling.holes.items) right filled
+    → run ≡ map (from_origin sources filled) (take (length sources) filling.origins.items) → AreSolved size ks (range_with_len (get_or es 0 0) (length ks)) (words_at run) sums → AreSolved size ks es (words_at sources) sums
+filled_solve ks es filling size sources right filled run sums is many source_bytes right_bytes filled_bytes sum_bytes right_are filled_are run_is solved = record {
+  count = solved.count;
+  sizes = solved.sizes;
+  words = λ j w low fits.
+      window_solved ks es filling is (let square = is.square in omega (arith, low, square)) sources right filled source_bytes right_bytes filled_bytes w
+      (λ u hu. right_are.words u w hu fits)
+      (λ q hq. filled_are.words q w (let count = is.holes.count in omega (arith, hq, count)) fits ∙ ap (λ m. products m (lists_of filling.holes.items) right q w) right_are.count)
+      (map (word w) sums) (words_are w sums (all_from (λ (content : List ℕ). AllByRecursion (λ b. b < 256) content) [] sums (λ i _. all_from (λ b. b < 256) 0 (list_at sums i) (λ k _. sum_bytes i k))))
+      (λ x hx.
+      ap (given ks (map (word w) sums)) (sym (get_or-range_with_len (get_or es 0 0) (length ks) x 0 hx))
+      ∙ solved.words x w hx fits
+      ∙ ap (λ ls. word w (list_at ls x)) run_is
+      ∙ ap (word w) (get_or-map (from_origin sources filled) (take (length sources) filling.origins.items) x (Exponent 0) [] (let taken = length-take-le (length sources) filling.origins.items (within w) in omega (arith, hx, many, taken)))
+      ∙ ap (λ o. word w (from_origin sources filled o)) (get_or-take (length sources) filling.origins.items x (Exponent 0) (omega (arith, hx, many))))
+      j low;
+}
   where
-    origins : List Origin
-    origins = filling.origins.items
-
-    rows : List (List ℕ)
-    rows = numerator_rows filling.equations.count filling.equations.sequence.items
-
-pub holes_made : (filling : Filling) (n size : ℕ) (buffers right sums : List (List ℕ)) → IsFilled n filling → length buffers ≡ n → AreByteLists buffers → AreProducts size (known_rows filling) buffers right
-    → AreProducts size (lists_of filling.holes.items) right sums → AreProducts size (hole_rows filling) buffers sums
-holes_made filling n size buffers right sums is count bytes first second =
-    subst (λ a. AreProducts size (matrix_product a (count_of filling) (lists_of filling.holes.items) (known_rows filling)) buffers sums) (known_rows_long filling)
-    (subst (λ b. AreProducts size (matrix_product (length (known_rows filling)) b (lists_of filling.holes.items) (known_rows filling)) buffers sums) (count ∙ sym is.count)
-    (products_joined size (lists_of filling.holes.items) (known_rows filling) buffers right sums (hole_elements filling n is) (known_fit filling) bytes first.count (λ i w low fits. first.words i w low fits) second))
-
-pub run_made : (filling : Filling) (n size : ℕ) (buffers filled run sums : List (List ℕ)) → IsFilled n filling → length buffers ≡ n → AreByteLists buffers → AreProducts size (hole_rows filling) buffers filled
-    → run ≡ map (from_origin buffers filled) (take (length buffers) filling.origins.items) → AreProducts size (located_rows filling.locator) run sums → AreProducts size (filled_rows filling) buffers sums
-run_made filling n size buffers filled run sums is count bytes first run_is second =
-    subst (λ b. AreProducts size (matrix_product b b (located_rows filling.locator) (map (from_origin (identity_rows b) (hole_rows filling)) (take b filling.origins.items))) buffers sums) (count ∙ sym is.count)
-    (subst (λ a. AreProducts size (matrix_product a (length buffers) (located_rows filling.locator) matrix) buffers sums) (long ∙ taken)
-    (products_joined size (located_rows filling.locator) matrix buffers run sums located_elements matrix_elements bytes
-    (ap length run_is ∙ length-map origins (from_origin buffers filled) ∙ sym long)
-    (λ x w low fits.
-    let here : x < length origins = omega (arith, low, long) in
-    ap (λ rs. word w (list_at rs x)) run_is ∙ run_words size origins (hole_rows filling) buffers filled bytes first x w here fits (within x here))
-    second))
-  where
-    origins : List Origin
-    origins = take (length buffers) filling.origins.items
-
-    taken : length origins ≡ length buffers
-    taken = length-take-le (length buffers) filling.origins.items (let w = is.window in omega (arith, w, count))
-
-    matrix : List (List ℕ)
-    matrix = map (from_origin (identity_rows (length buffers)) (hole_rows filling)) origins
-
-    long : length matrix ≡ length origins
-    long = length-map origins (from_origin (identity_rows (length buffers)) (hole_rows filling))
-
-    within : (x : ℕ) → x < length origins → HasRoomFor (length buffers) (length (hole_rows filling)) (origin_at origins x)
-    within x low =
-        subst (HasRoomFor (length buffers) (length (hole_rows filling))) (sym (get_or-take (length buffers) filling.origins.items x (Exponent 0) (omega (arith, low, taken))))
-        (subst (λ h. HasRoomFor (length buffers) h (origin_at filling.origins.items x)) (sym (hole_rows_long filling))
-        (subst (λ m. HasRoomFor m (length filling.holes.items) (origin_at filling.origins.items x)) (sym count) (is.origins x (let w = is.window in omega (arith, low, taken, w, count)))))
-
-    located_elements : HasElements (located_rows filling.locator)
-    located_elements = rows_elements (located_rows filling.locator) n (λ i low. is.run i (let many = located_long filling.locator.numerators.sequence.items filling.locator.points.items filling.locator.factors.items in omega (arith, low, many)))
-
-    hole_row : (q : ℕ) → q < length (hole_rows filling) → IsVector (length buffers) (list_at (hole_rows filling) q)
-    hole_row q low =
-        subst (λ m. IsVector m (list_at (hole_rows filling) q)) (is.count ∙ sym count)
-        (product_vector filling.equations.count (count_of filling) (lists_of filling.holes.items) (known_rows filling) q (let many = hole_rows_long filling in let same = length-lists_of filling.holes.items in omega (arith, low, many, same)) (hole_elements filling n is) (known_fit filling))
-
-    of_origin : (o : Origin) → HasRoomFor (length buffers) (length (hole_rows filling)) o → IsVector (length buffers) (from_origin (identity_rows (length buffers)) (hole_rows filling) o)
-    of_origin (Exponent j) h = identity_vector (length buffers) j h
-    of_origin (Hole q) h = hole_row q h
-
-    matrix_elements : HasElements matrix
-    matrix_elements = rows_elements matrix (length buffers) (λ x low.
-        let here : x < length origins = omega (arith, low, long) in
-        subst (IsVector (length buffers)) (sym (get_or-map (from_origin (identity_rows (length buffers)) (hole_rows filling)) origins x (Exponent 0) [] here)) (of_origin (origin_at origins x) (within x here)))
-
--- ---- the inverse
-
-pub inverts_over_holes : (ks es : List ℕ) (n : ℕ) (filling : Filling) → AreSlices ks → IsStrictlyIncreasing es → 0 < length es → length es ≡ length ks → n + length es ≡ span es + 1
-    → filling.equations.count ≡ n → filling.equations.sequence.items ≡ falling (locator ks) (span es + 1) → AreHoleInverse (locator ks) (holes es) n (lists_of filling.holes.items) → AreOrigins es (span es + 1) filling.origins.items
-    → Inverts ks (range_with_len (get_or es 0 0) (length ks)) (Located filling.locator) → Inverts ks es (Filled filling) × IsRepairable ks es
-inverts_over_holes ks es n filling are rise some square fit equations_are sequence_is inverse origins run = (record { is_inverse = is_inverse; takes = is_filled }, holes_determine ks es n are rise some (omega (arith, fit, square)) inverse.only)
-  where
-    l : ℕ
-    l = length ks
-
-    p : List ℕ
-    p = locator ks
-
-    inverse_by : ℕ → List (List ℕ) → List (List ℕ)
-    inverse_by a known = matrix_product l l (located_rows filling.locator) (map (from_origin (identity_rows l) (matrix_product a l (lists_of filling.holes.items) known)) (take l filling.origins.items))
-
-    known_by : ℕ → List ℕ → List (List ℕ)
-    known_by a sequence = matrix_product (length filling.origins.items) l (numerator_rows a sequence) (window_rows l filling.origins.items)
-
-    filled_by : ℕ → List (List ℕ)
-    filled_by b =
-        matrix_product b b (located_rows filling.locator)
-        (map (from_origin (identity_rows b) (matrix_product filling.equations.count b (lists_of filling.holes.items) (matrix_product (length filling.origins.items) b (numerator_rows filling.equations.count filling.equations.sequence.items) (window_rows b filling.origins.items)))) (take b filling.origins.items))
-
-    first_origins : AreOrigins es (length ks) (take (length ks) filling.origins.items)
-    first_origins = record {
-      count = length-take-le l filling.origins.items (let many = origins.count in omega (arith, many, fit, square));
-      each = λ x low. subst (IsOriginAt es x) (sym (get_or-take l filling.origins.items x (Exponent 0) low)) (origins.each x (omega (arith, low, fit, square)));
-    }
-
-    is_inverse : IsInverseMatrix ks es (filled_rows filling)
-    is_inverse =
-        subst (λ b. IsInverseMatrix ks es (filled_by b)) (sym run.takes)
-        (subst (λ a. IsInverseMatrix ks es (inverse_by a (known_by a filling.equations.sequence.items))) (sym equations_are)
-        (subst (λ sequence. IsInverseMatrix ks es (inverse_by n (known_by n sequence))) (sym sequence_is)
-        (subst (λ known. IsInverseMatrix ks es (inverse_by n known)) (sym (known_is ks es n l filling.origins.items rise some square origins))
-        (filled_inverse ks es n (lists_of filling.holes.items) (located_rows filling.locator) (take l filling.origins.items) are rise some square fit inverse first_origins run.is_inverse))))
-
-    many_holes : length filling.holes.items ≡ length (holes es)
-    many_holes = sym (length-lists_of filling.holes.items) ∙ inverse.count
-
-    within : (x : ℕ) (o : Origin) → IsOriginAt es x o → HasRoomFor (length ks) (length filling.holes.items) o
-    within x (Exponent j) h = omega (arith, h.0, square)
-    within x (Hole q) h = omega (arith, h.0, many_holes)
-
-    is_filled : IsFilled (length ks) filling
-    is_filled = record {
-      count = run.takes;
-      window = (let many = origins.count in omega (arith, many, fit, square));
-      origins = λ x low. within x (origin_at filling.origins.items x) (origins.each x (let many = origins.count in omega (arith, low, many)));
-      equations = ap (λ (xs : List ℕ). length xs) sequence_is ∙ falling_long p (span es + 1) ∙ sym origins.count;
-      holes = λ q low. subst (λ m. IsVector m (list_at (lists_of filling.holes.items) q)) (sym equations_are) (inverse.vectors q (omega (arith, low, many_holes)));
-      run = λ i low. run.is_inverse.vectors i (let many = located_long filling.locator.numerators.sequence.items filling.locator.points.items filling.locator.factors.items in let count = run.is_inverse.count in omega (arith, low, many, count));
-    }
+    within : ℕ → length sources ≤ length filling.origins.items
+    within w = let count = is.origins.count in let fit = is.fit in let square = is.square in omega (arith, many, count, fit, square)

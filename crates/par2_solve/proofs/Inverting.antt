@@ -1,9 +1,8 @@
 -- The inverse of the matrix of the kept exponents.
-use Rattle.par2_solve.proofs.Common.{inl, inr, ℕ, ◌+◌, ◌*◌, ◌/◌, ◌%◌, ◌<◌, ◌≤◌, ◌≡◌, ◌≢◌, refl, sym, ap, ◌∙◌, arith, cond, List, [], ◌∷◌, ◌++◌, Vec, Global, length, get_or, map, subst, bit_xor, Bor, xor_zero_l, cases_eq, eq-eqb, ne_eqb, get_or-map, length-map, length-replicate, mul, coefficient, word, dot, coefficients, kept, field_sum, list_at, lists_of, GivesElements, zero-product, product_comm, product-one, all_at, all_from, all_get, field_sum_same, field_sum_one, coefficients_are, dot-lt, words_are, bytes_at, combination_words, word-lt, Equations, IsTheSolution, AreByteRows, IsUnit, recovery_at, IsEliminated, IsInverseMatrix, identity, Adds, products, recovered_of, buffers_of, AreBlank, AreSolutionBuffers, combination, IsVector, AllByRecursion, ◌^◌}
-use Rattle.par2_matrix.specs.Echelon.{HoldsRow}
+use Rattle.par2_solve.proofs.Common.{inl, inr, ℕ, ◌+◌, ◌*◌, ◌/◌, ◌%◌, ◌<◌, ◌≤◌, ◌≡◌, ◌≢◌, refl, sym, ap, ◌∙◌, arith, cond, List, [], length, get_or, map, subst, Bor, cases_eq, eq-eqb, ne_eqb, get_or-map, length-map, mul, coefficient, word, dot, coefficients, kept, field_sum, list_at, GivesElements, zero-product, product_comm, product-one, all_at, all_from, all_get, field_sum_same, field_sum_one, coefficients_are, dot-lt, words_are, bytes_at, combination_words, word-lt, Equations, IsTheSolution, AreByteRows, IsUnit, recovery_at, IsEliminated, IsInverseMatrix, identity, recovered_of, buffers_of, AreSolutionBuffers, combination, IsVector, AllByRecursion, ◌^◌}
 use Rattle.par2_matrix.specs.Systems as systems
 use Rattle.par2_solve.proofs.Dots.{combined}
-use Rattle.par2_solve.proofs.Combinations.{coefficients-lt, dot_at, blank_word, each_push, length-buffers_of}
+use Rattle.par2_solve.proofs.Combinations.{coefficients-lt, dot_at, length-buffers_of}
 
 -- ---- recovery slices
 
@@ -17,15 +16,6 @@ pub many_buffers : (kept : List (ℕ × Bor (List ℕ))) (buffers : List (Bor (L
 many_buffers kept buffers are = sym (length-buffers_of buffers) ∙ ap length are ∙ length-slices (recovered_of kept) ∙ length-recovered_of kept
 
 -- ---- sums
-
--- the result of adding to zeros is the sum itself
-pub from_zeros : (size n words k : ℕ) (factors sources zeros sums : List (List ℕ)) → AreBlank size n zeros → 2 * words ≤ size → Adds factors sources zeros sums 0 words k
-    → (r p : ℕ) → r < n → p < words → word p (list_at sums r) ≡ products k factors sources r p
-from_zeros size n words k factors sources zeros sums blank room added r p low here =
-    let fits : 2 * p + 1 < length (list_at zeros r) = (let e = ap length (blank.each r low) ∙ length-replicate {A = ℕ} size 0 in omega (arith, e)) in
-    added.inside r p (omega (arith, blank.count)) (omega arith) here fits
-    ∙ ap (λ x. bit_xor x (products k factors sources r p)) (ap (λ xs. word p xs) (blank.each r low) ∙ blank_word size p)
-    ∙ xor_zero_l (products k factors sources r p)
 
 -- ---- the identity
 
@@ -95,7 +85,7 @@ unit_product m n j k row buffers rows fit elements bytes read low is =
     ∙ (combination_words (2 * n) row buffers unit (omega arith) (λ p. dot-lt row (map (word p) buffers) elements (words_are p buffers bytes)) is.size (unit_bytes n j unit is)).0 refl k (omega (arith, low))
     ∙ unit_word n j unit k is
 
-pub are_inverse : (lost : List ℕ) (recs kept_ones : List (ℕ × List ℕ)) (system : Equations) (buffers rows : List (List ℕ)) → IsEliminated lost recs kept_ones system → IsTheSolution system buffers
+pub are_inverse : (lost : List ℕ) (recs kept_ones : List (ℕ × List ℕ)) (system : Equations) (buffers rows : List (List ℕ)) → IsEliminated lost (length lost) recs kept_ones system → IsTheSolution system buffers
     → systems.rank system ≡ system.columns → AreByteRows rows buffers (length buffers) → IsInverseMatrix lost (map (λ r. r.0) kept_ones) rows
 are_inverse lost recs kept_ones system buffers rows found solution full are = record {
   square = length-map kept_ones (λ (r : ℕ × List ℕ). r.0) ∙ kept_count;
@@ -106,7 +96,7 @@ are_inverse lost recs kept_ones system buffers rows found solution full are = re
       let fit : length (coefficients lost e) ≤ n = (let long = length-map lost (coefficient e) in omega (arith, long)) in
       ap (λ x. field_sum n (λ i. mul (get_or (coefficients lost x) i 0) (get_or (list_at rows i) k 0))) (get_or-map (λ (r : ℕ × List ℕ). r.0) kept_ones j (0, []) 0 (omega (arith, hj, kept_count)))
       ∙ unit_product n n j k (coefficients lost e) buffers rows fit (coefficients_are e lost) solution.are_buffers.bytes (λ i hi. row_read n system buffers rows solution.are_buffers found.bytes are i k (omega (arith, hi, count)) hk) hk
-      (found.solves buffers solution.are_buffers solution.solves j (omega (arith, hj, kept_count)));
+      (found.solves buffers solution.are_buffers solution.solves j (omega (arith, hj, kept_count)) hj);
 }
   where
     n : ℕ
@@ -132,8 +122,3 @@ gives_back lost es inverse made w s is are made_is j low =
     ∙ combined n n (λ i. get_or row i 0) x s (coefficients-lt lost (get_or es j 0)) (λ i hi. all_at (λ z. z < 65536) 0 (omega arith) (list_at inverse i) (is.vectors i hi).1) are
     ∙ field_sum_same n (λ k. mul (field_sum n (λ i. mul (get_or row i 0) (x i k))) (s k)) (λ k. mul (identity j k) (s k)) (λ k hk. ap (λ z. mul z (s k)) (is.product j k low hk))
     ∙ sum_of_row n j s low are
-
--- the elements of one buffer more
-pub rows_push : (buffers : List (List ℕ)) (rows : List (Vec ℕ Global)) (row : Vec ℕ Global) (r : ℕ) → AreByteRows (lists_of rows) buffers r → HoldsRow row.items (list_at buffers r) (length row.items)
-    → AreByteRows (lists_of (rows ++ row ∷ [])) buffers (r + 1)
-rows_push buffers rows row r are is = let all = each_push (λ q row. HoldsRow row (list_at buffers q) (length row)) rows row r are.count are.each is in record { count = all.0; each = all.1 }

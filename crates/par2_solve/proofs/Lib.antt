@@ -17,8 +17,6 @@ pub mod Locating
 pub mod Beginnings
 pub mod Choices
 pub mod Windows
-pub mod Matrices
 pub mod Fillings
-pub mod RightSides
 pub mod Filled
 mod SpanLaws

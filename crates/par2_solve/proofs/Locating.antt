@@ -1,11 +1,10 @@
 -- The rows that a locator represents are the scaled quotients.
-use Rattle.par2_solve.proofs.Common.{Vec, Global, lists_of, length-lists_of, ℕ, zero, suc, ◌+◌, ◌-◌, ◌*◌, ◌^◌, ◌<◌, ◌≤◌, ◌≡◌, refl, sym, ap, ap₂, ◌∙◌, subst, arith, List, [], ◌∷◌, ◌++◌, inl, inr, cases_lt, length-append, get_or_append_left, get_or_at, length, get_or, drop, map, bit_xor, range_with_len, get_or-drop, length-drop, get_or-map, length-map, ext_get_or, get_or-map-range_with_len, length-map-range_with_len, mul, pow, field_sum, field_sum_head, field_sum_none, field_sum_same, field_sum_scaled, zero-product, product-one, product_assoc, product_comm, power-lt, all_at, all_from, list_at, times, value, with_roots, quotient, length-quotient, length-with_roots, with_roots_elements, AreSlices, constant, constant-lt, IsInverseMatrix, word, AreBlank, AddsToEach, xor_zero_l, length-replicate}
-use Rattle.par2_solve.specs.Solvers.{AreFactors}
-use Rattle.par2_solve.specs.Located.{quotient_rows}
+use Rattle.par2_solve.proofs.Common.{ℕ, zero, suc, ◌+◌, ◌-◌, ◌^◌, ◌<◌, ◌≤◌, ◌≡◌, sym, ap, ap₂, ◌∙◌, subst, arith, List, [], ◌∷◌, length, get_or, drop, map, bit_xor, range_with_len, get_or-drop, length-drop, get_or-map, length-map, ext_get_or, get_or-map-range_with_len, length-map-range_with_len, mul, pow, field_sum, field_sum_head, field_sum_none, field_sum_same, field_sum_scaled, zero-product, product-one, product_assoc, product_comm, power-lt, all_at, all_from, list_at, times, value, with_roots, quotient, length-quotient, length-with_roots, with_roots_elements, AreSlices, constant, constant-lt, IsInverseMatrix, word, AreProducts, AreSums, products}
+use Rattle.par2_solve.specs.Inverses.{AreFactors, IsLocatorFor, quotient_rows}
+use Rattle.par2_transform.specs.declared.locator.Locator.{Locator}
 use Rattle.par2_spec.specs.Polynomials.{AreElements}
 use Rattle.par2_transform.specs.Evaluations as evaluations
 use Rattle.par2_transform.specs.Locators.{quotient_coefficient}
-use Rattle.par2_solve.proofs.Combinations.{blank_word}
 use Rattle.par2_solve.proofs.Quotients.{quotient_at}
 use Rattle.par2_solve.proofs.RunInverses.{constants-lt, constant_at, is_inverse, scaled_is}
 
@@ -68,32 +67,6 @@ row_is points factors p j h low hc =
     size : length (times b (quotient c p)) ≡ n
     size = length-map (quotient c p) (mul b) ∙ quotient_long
 
-pub no_factor : (f : ℕ) (p points : List ℕ) → AreFactors f p points [] 0
-no_factor f p points = record { count = refl; small = λ j h. absurd (omega (arith, h)); each = λ j h. absurd (omega (arith, h)) }
-
-pub next_factor : (f n b : ℕ) (p points factors : List ℕ) → AreFactors f p points factors n
-    → mul (mul (pow (get_or points n 0) f) (value (quotient (get_or points n 0) p) (get_or points n 0))) b ≡ 1 → b < 2 ^ 16 → AreFactors f p points (factors ++ b ∷ []) (n + 1)
-next_factor f n b p points factors so_far product small = record {
-  count = length-append factors (b ∷ []) ∙ ap (λ k. k + 1) so_far.count;
-  small = λ j h. elim (cases_lt j n) [
-    | inl low ↦ subst (λ x. x < 65536) (sym (before j low)) (so_far.small j low)
-    | inr high ↦ subst (λ x. x < 65536) (sym (here j (omega (arith, high, h)))) small
-  ];
-  each = λ j h. elim (cases_lt j n) [
-    | inl low ↦ ap (mul (at j)) (before j low) ∙ so_far.each j low
-    | inr high ↦ (let last : j ≡ n = omega (arith, high, h) in ap₂ mul (ap at last) (here j last) ∙ product)
-  ];
-}
-  where
-    at : ℕ → ℕ
-    at j = mul (pow (get_or points j 0) f) (value (quotient (get_or points j 0) p) (get_or points j 0))
-
-    before : (j : ℕ) → j < n → get_or (factors ++ b ∷ []) j 0 ≡ get_or factors j 0
-    before j low = get_or_append_left factors (b ∷ []) 0 j (let e = so_far.count in omega (arith, e, low))
-
-    here : (j : ℕ) → j ≡ n → get_or (factors ++ b ∷ []) j 0 ≡ b
-    here j last = ap (λ k. get_or (factors ++ b ∷ []) k 0) last ∙ get_or_at factors b [] 0 n so_far.count
-
 -- with Forney's factors the rows are the inverse for a run
 pub located_inverse : (ks : List ℕ) (f : ℕ) (factors : List ℕ) → AreSlices ks → AreFactors f (with_roots (map constant ks)) (map constant ks) factors (length ks)
     → IsInverseMatrix ks (range_with_len f (length ks)) (quotient_rows (drop 1 (with_roots (map constant ks))) (map constant ks) factors)
@@ -128,18 +101,32 @@ located_wide ks =
     let rest = length-drop 1 (with_roots (map constant ks)) in
     omega (arith, many, all, rest)
 
--- the number of rows
-pub rows_long : (rows : List (Vec ℕ Global)) → length rows ≡ length (lists_of rows)
-rows_long rows = sym (length-lists_of rows)
+-- a locator has a point for each lost slice
+pub located_count : (ks es : List ℕ) (locator : Locator) → IsLocatorFor ks es locator → length locator.points.items ≡ length ks
+located_count ks es locator is =
+    sym (length-map-range_with_len (λ i. map (quotient_coefficient locator.numerators.sequence.items locator.points.items locator.factors.items i) (range_with_len 0 (length locator.numerators.sequence.items))) 0 (length locator.points.items))
+    ∙ is.is_inverse.count
 
-pub located_long : (sequence points factors : List ℕ) → length (quotient_rows sequence points factors) ≡ length points
-located_long sequence points factors = length-map-range_with_len (λ i. map (quotient_coefficient sequence points factors i) (range_with_len 0 (length sequence))) 0 (length points)
+-- sums by coefficients are products with their matrix
+pub coefficient_products : (co : ℕ → ℕ → ℕ) (n m size : ℕ) (sources sums : List (List ℕ)) → length sources ≡ m → AreSums size n (λ w r. field_sum m (λ s. mul (co r s) (word w (list_at sources s)))) sums
+    → AreProducts size (map (λ r. map (co r) (range_with_len 0 m)) (range_with_len 0 n)) sources sums
+coefficient_products co n m size sources sums sources_count are = record {
+  count = are.count ∙ sym many;
+  sizes = λ r low. are.sizes r (omega (arith, low, many));
+  words = λ r w low fits.
+      are.words r w (omega (arith, low, many)) fits
+      ∙ field_sum_same m (λ s. mul (co r s) (word w (list_at sources s))) (λ s. mul (get_or (list_at matrix r) s 0) (word w (list_at sources s)))
+      (λ s here. ap (λ x. mul x (word w (list_at sources s))) (sym (coefficient_at r s (omega (arith, low, many)) here)))
+      ∙ ap (λ k. products k matrix sources r w) (sym sources_count);
+}
+  where
+    matrix : List (List ℕ)
+    matrix = map (λ r. map (co r) (range_with_len 0 m)) (range_with_len 0 n)
 
--- the result of adding to zeros is the sums themselves
-pub added_to_blank : (size n : ℕ) (other : ℕ → ℕ → ℕ) (blank sums : List (List ℕ)) → AreBlank size n blank → AddsToEach other blank sums
-    → (r w : ℕ) → r < n → 2 * w + 1 < size → word w (list_at sums r) ≡ other r w
-added_to_blank size n other blank sums is added r w low fits =
-    let here : 2 * w + 1 < length (list_at blank r) = (let e = ap length (is.each r low) ∙ length-replicate {A = ℕ} size 0 in omega (arith, e, fits)) in
-    added.each r w (let count = is.count in omega (arith, count, low)) here
-    ∙ ap (λ x. bit_xor x (other r w)) (ap (λ xs. word w xs) (is.each r low) ∙ blank_word size w)
-    ∙ xor_zero_l (other r w)
+    many : length matrix ≡ n
+    many = length-map-range_with_len (λ r. map (co r) (range_with_len 0 m)) 0 n
+
+    coefficient_at : (r s : ℕ) → r < n → s < m → get_or (list_at matrix r) s 0 ≡ co r s
+    coefficient_at r s low here =
+        ap (λ xs. get_or xs s 0) (get_or-map-range_with_len (λ i. map (co i) (range_with_len 0 m)) 0 n r r [] low (omega arith))
+        ∙ get_or-map-range_with_len (co r) 0 m s s 0 here (omega arith)

@@ -1,6 +1,6 @@
 -- Exponents that are close, and runs of them, by their indices.
 use Rattle.par2_solve.specs.declared.exponents.Lost.{Lost}
-use Rattle.par2_solve.proofs.Common.{All, recursion_from_All, AreSlices, AreClose, HasRun, all_from, Option, IfSome, IsNone, slice_get, Contains, range_with_len, [], ◌∷◌, ◌↔◌, IsTrue, false, eqb, ltb, ℕ, zero, suc, ◌+◌, ◌-◌, ◌<◌, ◌≤◌, ◌≡◌, refl, sym, ap, ◌∙◌, subst, arith, inl, inr, List, length, get_or, drop, take, IsStrictlyIncreasing, cases_lt, eqb-false, ltb-true, lt-ltb, false≢true, get_or-take, get_or-drop, get_or_default, length-take-le, length-drop, Contains-get_or, get_or-range_with_len, length-range_with_len}
+use Rattle.par2_solve.proofs.Common.{All, AllPairs-from_increasing, AreClose, AreSlices, Contains, Contains-get_or, HasRun, IfSome, IsNone, IsStrictlyIncreasing, IsTrue, List, Option, [], all_from, ap, arith, cases_eq, cases_lt, drop, eqb, eqb-false, false, false≢true, get_or, get_or-drop, get_or-range_with_len, get_or-take, get_or_default, inl, inr, length, length-drop, length-range_with_len, length-take-le, lt-ltb, ltb, ltb-true, range_with_len, recursion_from_All, refl, slice_get, subst, suc, sym, take, zero, ℕ, ◌+◌, ◌-◌, ◌<◌, ◌↔◌, ◌∙◌, ◌∷◌, ◌≡◌, ◌≤◌}
 
 -- numbers of slices that rise
 pub slices_from : (numbers : List ℕ) → IsStrictlyIncreasing numbers → All (λ k. k < 32768) numbers → AreSlices numbers
@@ -33,6 +33,16 @@ rises_between xs rise i j low h =
     subst (λ n. get_or xs i 0 + (j - i) ≤ get_or xs n 0) e (rises_by xs rise i (j - i) (omega (arith, e, h)))
 
 -- a contained number is at some index
+-- equal items are one item
+pub rises_differ : (xs : List ℕ) → IsStrictlyIncreasing xs → (i j : ℕ) → i < length xs → j < length xs → get_or xs i 0 ≡ get_or xs j 0 → i ≡ j
+rises_differ xs rise i j hi hj same = elim (cases_lt i j) [
+  | inl low ↦ (let less = AllPairs-from_increasing xs rise i j 0 low hj in absurd (omega (arith, less, same)))
+  | inr high ↦ elim (cases_eq i j) [
+    | inl equal ↦ equal
+    | inr other ↦ (let less = AllPairs-from_increasing xs rise j i 0 (omega (arith, high, other)) hi in absurd (omega (arith, less, same)))
+  ]
+]
+
 pub placed : (xs : List ℕ) (x : ℕ) → Contains xs x → (i : ℕ) × (i < length xs) × (get_or xs i 0 ≡ x)
 placed xs x c = (c.0, c.1, get_or_default xs c.0 0 x c.1 ∙ c.2)
 

@@ -1,7 +1,8 @@
 -- The lost slices by their syndromes, one block of columns after the other.
-use Rattle.par2_solve.proofs.Common.{inl, inr, ℕ, ◌+◌, ◌-◌, ◌*◌, ◌/◌, ◌%◌, ◌<◌, ◌≤◌, ◌≡◌, sym, ap, ap₂, ◌∙◌, arith, List, [], ◌++◌, length, length-append, get_or, map, bit_xor, drop, Bor, cases_lt, get_or-take, get_or-drop, get_or-map, get_or_append_left, get_or-append_right, length-map, length-replicate, length-take-le, length-drop, mul, coefficient, word, field_sum, list_at, field_sum_same, recovered, Adds, AddsToEach, chunk, syndrome, AreProducts, AreSolved, AreExtended, buffers_of, AreBlank}
-use Rattle.par2_solve.proofs.Combinations.{length-buffers_of}
-use Rattle.par2_solve.proofs.Inverting.{from_zeros}
+use Rattle.par2_solve.proofs.Common.{inl, inr, ℕ, ◌+◌, ◌-◌, ◌*◌, ◌/◌, ◌%◌, ◌<◌, ◌≤◌, ◌≡◌, sym, ap, ap₂, ◌∙◌, arith, List, [], ◌++◌, length, length-append, get_or, map, bit_xor, drop, Bor, cases_lt, get_or-take, get_or-drop, get_or-map, get_or_append_left, get_or-append_right, length-map, length-replicate, length-take-le, length-drop, mul, coefficient, word, field_sum, list_at, field_sum_same, recovered, AddsToEach, chunk, syndrome, AreByteLists, AreProducts, AreSolved, AreSums, IsInverseMatrix, coefficients, dot, products, word-lt, xor_zero_l, AreExtended, buffers_of, AreBlank}
+use Rattle.par2_solve.proofs.Combinations.{blank_word, dot_at, length-buffers_of}
+use Rattle.par2_solve.proofs.Inverting.{gives_back}
+use Rattle.par2_transform.specs.Columns.{words_at}
 
 -- ---- windows
 
@@ -50,56 +51,66 @@ word_after p xs ys w e high = ap₂ (λ x y. x + 256 * y) (byte (2 * w) (2 * (w 
 
 -- ---- the words of a block
 
-pub products_added : (n m : ℕ) (inverse buffers zeros new : List (List ℕ)) → m ≡ length inverse → AreBlank (2 * n) m zeros → Adds inverse buffers zeros new 0 n (length buffers)
-    → AreProducts (2 * n) inverse buffers new
-products_added n m inverse buffers zeros new e blank added = record {
-  count = added.count ∙ blank.count ∙ e;
-  sizes = λ r h. added.sizes r ∙ ap length (blank.each r (omega (arith, e))) ∙ length-replicate {A = ℕ} (2 * n) 0;
-  words = λ r w h low. from_zeros (2 * n) m n (length buffers) inverse buffers zeros new blank (omega arith) added r w (omega (arith, e)) (omega (arith, low));
+-- the result of adding to zeros is the sums themselves
+pub sums_of_blank : (s n : ℕ) (side : ℕ → ℕ → ℕ) (blank sums : List (List ℕ)) → AreBlank s n blank → AddsToEach side blank sums → AreSums s n (λ w r. side r w) sums
+sums_of_blank s n side blank sums is added = record {
+  count = added.count ∙ is.count;
+  sizes = λ r low. added.sizes r ∙ size r low;
+  words = λ r w low fits.
+      added.each r w (let count = is.count in omega (arith, count, low)) (let long = size r low in omega (arith, long, fits))
+      ∙ ap (λ x. bit_xor x (side r w)) (ap (λ xs. word w xs) (is.each r low) ∙ blank_word s w)
+      ∙ xor_zero_l (side r w);
+}
+  where
+    size : (r : ℕ) → r < n → length (list_at blank r) ≡ s
+    size r low = ap length (is.each r low) ∙ length-replicate {A = ℕ} s 0
+
+-- the rows of the inverse times the sources solve the equations
+pub rows_solve : (s : ℕ) (lost es : List ℕ) (rows sources sums : List (List ℕ)) → IsInverseMatrix lost es rows → AreByteLists sources → length sources ≡ length lost → AreProducts s rows sources sums → AreSolved s lost es (words_at sources) sums
+rows_solve s lost es rows sources sums is bytes many are = record {
+  count = are.count ∙ is.count;
+  sizes = λ r low. are.sizes r (let count = is.count in omega (arith, low, count));
+  words = λ j w low fits.
+      gives_back lost es rows sums w (λ k. word w (list_at sources k)) is (λ k. word-lt (list_at sources k) w (bytes k))
+      (λ i hi. are.words i w (let count = is.count in omega (arith, hi, count)) fits ∙ ap (λ n. products n rows sources i w) many) j low;
 }
 
 -- recovery slices over the known slices, added to the kept ones, make them syndromes
-pub words_solved : (s : ℕ) (inverse known slices syndromes new : List (List ℕ)) (exponents : List ℕ) → ((j : ℕ) → j < length slices → length (list_at slices j) ≡ s)
-    → AddsToEach (λ t p. recovered known (get_or exponents t 0) p) slices syndromes → AreProducts s inverse syndromes new → AreSolved s inverse exponents known slices new
-words_solved s inverse known slices syndromes new exponents sizes added sums = record {
-  count = sums.count;
-  sizes = sums.sizes;
-  words = λ r w h low.
-      sums.words r w h low
-      ∙ ap (λ k. field_sum k (λ j. mul (get_or (list_at inverse r) j 0) (word w (list_at syndromes j)))) added.count
-      ∙ field_sum_same (length slices) (λ j. mul (get_or (list_at inverse r) j 0) (word w (list_at syndromes j))) (λ j. mul (get_or (list_at inverse r) j 0) (syndrome exponents known slices w j))
-      (λ j here. ap (mul (get_or (list_at inverse r) j 0)) (added.each j w here (let size = sizes j here in omega (arith, size, low))));
+pub words_solved : (s : ℕ) (lost exponents : List ℕ) (known slices syndromes new : List (List ℕ)) → length slices ≡ length lost → ((j : ℕ) → j < length slices → length (list_at slices j) ≡ s)
+    → AddsToEach (λ t p. recovered known (get_or exponents t 0) p) slices syndromes → AreSolved s lost exponents (words_at syndromes) new → AreSolved s lost exponents (syndrome exponents known slices) new
+words_solved s lost exponents known slices syndromes new many sizes added solved = record {
+  count = solved.count;
+  sizes = solved.sizes;
+  words = λ j w low fits. let here : j < length slices = omega (arith, low, many) in solved.words j w low fits ∙ added.each j w here (let size = sizes j here in omega (arith, size, fits));
 }
 
 -- ---- block by block
 
-pub none_solved : (m : ℕ) (exponents : List ℕ) (inverse known slices buffers : List (List ℕ)) → m ≡ length inverse → AreBlank 0 m buffers → AreSolved 0 inverse exponents known slices buffers
-none_solved m exponents inverse known slices buffers e blank = record {
+pub none_solved : (m : ℕ) (lost exponents : List ℕ) (side : ℕ → ℕ → ℕ) (buffers : List (List ℕ)) → m ≡ length lost → AreBlank 0 m buffers → AreSolved 0 lost exponents side buffers
+none_solved m lost exponents side buffers e blank = record {
   count = blank.count ∙ e;
   sizes = λ r h. ap length (blank.each r (omega (arith, e)));
-  words = λ r w h low. absurd (omega (arith, low));
+  words = λ j w h low. absurd (omega (arith, low));
 }
 
 -- one block of n bytes more
-pub more_solved : (from n : ℕ) (exponents : List ℕ) (inverse known slices old blocks new : List (List ℕ)) → from % 2 ≡ 0 → AreSolved from inverse exponents known slices old
-    → AreSolved n inverse exponents (map (chunk from n) known) (map (chunk from n) slices) blocks → AreExtended old blocks new (length blocks)
-    → AreSolved (from + n) inverse exponents known slices new
-more_solved from n exponents inverse known slices old blocks new even before more extended = record {
+pub more_solved : (from n : ℕ) (lost exponents : List ℕ) (known slices old blocks new : List (List ℕ)) → from % 2 ≡ 0 → length slices ≡ length lost → AreSolved from lost exponents (syndrome exponents known slices) old
+    → AreSolved n lost exponents (syndrome exponents (map (chunk from n) known) (map (chunk from n) slices)) blocks → AreExtended old blocks new (length blocks)
+    → AreSolved (from + n) lost exponents (syndrome exponents known slices) new
+more_solved from n lost exponents known slices old blocks new even many before more extended = record {
   count = extended.count ∙ before.count;
   sizes = λ r h. ap length (here r h) ∙ length-append (list_at old r) (list_at blocks r) ∙ ap₂ (λ a b. a + b) (before.sizes r h) (more.sizes r h);
-  words = λ r w h low. elim (cases_lt w p) [
-    | inl early ↦ ap (λ xs. word w xs) (here r h) ∙ word_before p (list_at old r) (list_at blocks r) w (before.sizes r h ∙ half) early ∙ before.words r w h (omega (arith, half, early))
+  words = λ j w h low. elim (cases_lt w p) [
+    | inl early ↦
+        same_sum j new old w w (λ r hr. ap (λ xs. word w xs) (here r hr) ∙ word_before p (list_at old r) (list_at blocks r) w (before.sizes r hr ∙ half) early)
+        ∙ before.words j w h (omega (arith, half, early))
     | inr late ↦
         let q = w - p in
         let fits : 2 * q + 1 < n = omega (arith, half, low, late) in
         let same : p + q ≡ w = omega (arith, late) in
-        ap (λ xs. word w xs) (here r h)
-        ∙ word_after p (list_at old r) (list_at blocks r) w (before.sizes r h ∙ half) late
-        ∙ more.words r q h fits
-        ∙ ap (λ m. field_sum m (λ j. mul (get_or (list_at inverse r) j 0) (syndrome exponents (map (chunk from n) known) (map (chunk from n) slices) q j))) (length-map slices (chunk from n))
-        ∙ field_sum_same (length slices) (λ j. mul (get_or (list_at inverse r) j 0) (syndrome exponents (map (chunk from n) known) (map (chunk from n) slices) q j))
-        (λ j. mul (get_or (list_at inverse r) j 0) (syndrome exponents known slices w j))
-        (λ j at. ap (mul (get_or (list_at inverse r) j 0)) (syndrome-window from n p exponents known slices q j half fits at ∙ ap (λ x. syndrome exponents known slices x j) same))
+        same_sum j new blocks w q (λ r hr. ap (λ xs. word w xs) (here r hr) ∙ word_after p (list_at old r) (list_at blocks r) w (before.sizes r hr ∙ half) late)
+        ∙ more.words j q h fits
+        ∙ syndrome-window from n p exponents known slices q j half fits (omega (arith, h, many)) ∙ ap (λ x. syndrome exponents known slices x j) same
   ];
 }
   where
@@ -109,5 +120,13 @@ more_solved from n exponents inverse known slices old blocks new even before mor
     half : from ≡ 2 * p
     half = omega (arith, even)
 
-    here : (r : ℕ) → r < length inverse → list_at new r ≡ list_at old r ++ list_at blocks r
+    here : (r : ℕ) → r < length lost → list_at new r ≡ list_at old r ++ list_at blocks r
     here r h = extended.each r (let n = more.count in omega (arith, n, h))
+
+    same_sum : (j : ℕ) (xs ys : List (List ℕ)) (w q : ℕ) → ((r : ℕ) → r < length lost → word w (list_at xs r) ≡ word q (list_at ys r)) → dot (coefficients lost (get_or exponents j 0)) (map (word w) xs) ≡ dot (coefficients lost (get_or exponents j 0)) (map (word q) ys)
+    same_sum j xs ys w q equal =
+        let row = coefficients lost (get_or exponents j 0) in
+        let fit : length row ≤ length lost = (let long = length-map lost (coefficient (get_or exponents j 0)) in omega (arith, long)) in
+        dot_at (length lost) row xs w fit
+        ∙ field_sum_same (length lost) (λ i. mul (get_or row i 0) (word w (list_at xs i))) (λ i. mul (get_or row i 0) (word q (list_at ys i))) (λ i hi. ap (mul (get_or row i 0)) (equal i hi))
+        ∙ sym (dot_at (length lost) row ys q fit)

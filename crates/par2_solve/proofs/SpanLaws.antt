@@ -3,7 +3,7 @@ use Rattle.par2_solve.proofs.Common.{ℕ, ◌+◌, ◌-◌, ◌*◌, ◌<◌, �
 use Rattle.par2_transform.specs.Adding.{AddsToEach}
 use Rattle.par2_transform.specs.declared.outputs.Place.{Place}
 use Rattle.par2_transform.proofs.AddingLaws.{within-in}
-use Rattle.par2_solve.specs.Spans.{AreWithin, picked}
+use Rattle.par2_solve.specs.BufferContents.{AreWithin, picked}
 use Rattle.par2_solve.proofs.AdditionLaws.{sum_word}
 use Rattle.par2_solve.proofs.Combinations.{blank_word}
 

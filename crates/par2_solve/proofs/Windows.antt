@@ -4,7 +4,6 @@ use Rattle.std.specs.Result.{IsOk, MatchResult, is_err}
 use Rattle.std.specs.Prelude.{Err, nat_eq}
 use Rattle.std.proofs.lemmas.List.{get_or_past, map-id}
 use Rattle.std.proofs.lemmas.List.Elements.{filter-append}
-use Rattle.par2_matrix.specs.Systems as systems
 use Rattle.par2_spec.proofs.ListsLaws.{of_contained, all-take, contained_first, contained_later}
 use Rattle.par2_spec.proofs.FullRank.{full-iff}
 use Rattle.par2_spec.proofs.PolynomialLaws.{with_roots_zero}
@@ -13,8 +12,7 @@ use Rattle.std.proofs.lemmas.List.Kept.{IsStrictlyIncreasing-filter}
 use Rattle.par2_spec.proofs.FieldConstants.{range_rises}
 use Rattle.std.proofs.lemmas.Map.Views.{Contains-from_any, list_any-from_Contains}
 use Rattle.std.specs.List.{list_any}
-use Rattle.par2_solve.specs.Elements.{IsUnit}
-use Rattle.par2_solve.specs.Holes.{locator, shifted_at, shifted, span, is_hole, holes, KilledByShifts, OnlyZeroFits, AreHoleEquations}
+use Rattle.par2_solve.specs.Inverses.{AreHoleEquations, IsUnit, KilledByShifts, OnlyZeroFits, holes, is_hole, locator, shifted, shifted_at, span}
 use Rattle.par2_solve.proofs.Combinations.{coefficients-lt}
 use Rattle.par2_solve.proofs.Dots.{combined}
 use Rattle.par2_solve.proofs.RunInverses.{constants-lt, constant_at, run_sum_is}
@@ -43,21 +41,23 @@ trailing n zero f none = ap (λ m. field_sum m f) (let e : n + 0 ≡ n = omega a
 trailing n (suc r) f none =
     ap (λ m. field_sum m f) (let e : n + suc r ≡ suc (n + r) = omega arith in e) ∙ ap₂ bit_xor (trailing n r f none) (none r) ∙ xor_zero_r (field_sum n f)
 
+-- a sum over a window, by index
+pub window_dot : (a g : ℕ → ℕ) (w : ℕ) → dot (map a (range_with_len 0 w)) (map g (range_with_len 0 w)) ≡ field_sum w (λ y. mul (a y) (g y))
+window_dot a g w =
+    dot_sum w (map a (range_with_len 0 w)) (map g (range_with_len 0 w)) (omega (arith, length-map-range_with_len a 0 w))
+    ∙ field_sum_same w (product_at (map a (range_with_len 0 w)) (map g (range_with_len 0 w))) (λ y. mul (a y) (g y)) (λ i low. let at : 0 + i ≡ i = omega arith in
+    ap₂ mul (get_or-map-range_with_len a 0 w i i 0 low at) (get_or-map-range_with_len g 0 w i i 0 low at))
+
 -- over a whole window it gives the products of the polynomial's coefficients
 pub shifted_sum : (p : List ℕ) (u w : ℕ) (g : ℕ → ℕ) → u + length p ≤ w
     → dot (shifted p u (range_with_len 0 w)) (map g (range_with_len 0 w)) ≡ field_sum (length p) (λ k. mul (get_or p k 0) (g (u + k)))
 shifted_sum p u w g h =
-    dot_sum w (shifted p u xs) (map g xs) (omega (arith, length-map-range_with_len (shifted_at p u) 0 w))
-    ∙ field_sum_same w (product_at (shifted p u xs) (map g xs)) f (λ i low. let at : 0 + i ≡ i = omega arith in
-    ap₂ mul (get_or-map-range_with_len (shifted_at p u) 0 w i i 0 low at) (get_or-map-range_with_len g 0 w i i 0 low at))
+    window_dot (shifted_at p u) g w
     ∙ ap (λ m. field_sum m f) (let e : w ≡ u + (n + r) = omega (arith, h) in e)
     ∙ leading u (n + r) f (λ i low. ap (λ x. mul x (g i)) (below p u i low) ∙ zero-product (g i))
     ∙ trailing n r (λ k. f (u + k)) (λ i. ap (λ x. mul x (g (u + (n + i)))) (from p u (n + i) ∙ get_or_past p (n + i) 0 (omega arith)) ∙ zero-product (g (u + (n + i))))
     ∙ field_sum_same n (λ k. f (u + k)) (λ k. mul (get_or p k 0) (g (u + k))) (λ k _. ap (λ x. mul x (g (u + k))) (from p u k))
   where
-    xs : List ℕ
-    xs = range_with_len 0 w
-
     n : ℕ
     n = length p
 
@@ -224,10 +224,6 @@ holes_rise es = IsStrictlyIncreasing-filter (is_hole es) (range_with_len 0 (span
 
 -- ---- the system
 
-pub no_equation : (p places : List ℕ) (m : ℕ) (system : Equations) → system ≡ systems.no_equations (length places) (2 * m) → AreHoleEquations p places m 0 system
-no_equation p places m system is =
-    subst (AreHoleEquations p places m 0) (sym is) (record { columns = refl; bytes = refl; kills = λ v vector fits. tt; solves = λ buffers are solved u low. absurd (omega (arith, low)) })
-
 pub one_equation_more : (p places row right : List ℕ) (m u : ℕ) (old new : Equations) → AreHoleEquations p places m u old → new.columns ≡ old.columns → new.bytes ≡ old.bytes → row ≡ shifted p u places → (u < m → IsUnit m u right)
     → CutDown old new row right → AreHoleEquations p places m (u + 1) new
 one_equation_more p places row right m u old new before columns bytes is unit cut = record {
@@ -258,55 +254,40 @@ only_zero_fits p places m n system are regular v vector fits =
 
 -- ---- the exponents determine the lost slices
 
--- what holds of the items that pass a test and of the others holds of all
-all_parted : (P : ℕ → Type 0) (t : ℕ → Bool) (xs : List ℕ) → AllByRecursion P (filter t xs) → ((x : ℕ) → t x ≡ false → P x) → AllByRecursion P xs
-all_parted P t [] h others = tt
-all_parted P t (x ∷ xs) h others = step (t x) refl h (λ rest. all_parted P t xs rest others)
+-- what holds of each item that passes a test holds of all that a filter leaves
+pub filter_all : (P : ℕ → Type 0) (t : ℕ → Bool) (xs : List ℕ) → AllByRecursion (λ x. t x ≡ true → P x) xs → AllByRecursion P (filter t xs)
+filter_all P t [] h = tt
+filter_all P t (x ∷ xs) h = step (t x) refl (filter t xs) (filter_all P t xs h.1)
   where
-    step : (b : Bool) → t x ≡ b → AllByRecursion P (cond b (x ∷ filter t xs) (filter t xs)) → (AllByRecursion P (filter t xs) → AllByRecursion P xs) → AllByRecursion P (x ∷ xs)
-    step true e h more = (h.0, more h.1)
-    step false e h more = (others x e, more h)
+    step : (b : Bool) → t x ≡ b → (rest : List ℕ) → AllByRecursion P rest → AllByRecursion P (cond b (x ∷ rest) rest)
+    step true e rest more = (h.0 e, more)
+    step false e rest more = more
 
-pub all_others : (P : ℕ → Type 0) (t : ℕ → Bool) (xs : List ℕ) → ((x : ℕ) → t x ≡ false → P x) → AllByRecursion P (filter (λ x. not (t x)) xs)
-all_others P t [] others = tt
-all_others P t (x ∷ xs) others = step (t x) refl (filter (λ y. not (t y)) xs) (all_others P t xs others)
-  where
-    step : (b : Bool) → t x ≡ b → (rest : List ℕ) → AllByRecursion P rest → AllByRecursion P (cond (not b) (x ∷ rest) rest)
-    step true e rest h = h
-    step false e rest h = (others x e, h)
+pub range_all : (P : ℕ → Type 0) (n : ℕ) → ((x : ℕ) → x < n → P x) → AllByRecursion P (range_with_len 0 n)
+range_all P n h = all_from P 0 (range_with_len 0 n) (λ i low.
+    let here : i < n = (let long = length-range_with_len 0 n in omega (arith, low, long)) in
+    subst P (sym (get_or-range_with_len 0 n i 0 here)) (h (0 + i) (omega (arith, here))))
 
--- for the window of a shifted locator, the sums at places that are no holes and at the holes, each times the locator's
--- coefficient, add up to 0
+pub unset : (b : Bool) → not b ≡ true → b ≡ false
+unset true e = sym e
+unset false e = refl
+
+-- the place of a hole
+pub hole_place : (es : List ℕ) (q : ℕ) → q < length (holes es) → (get_or (holes es) q 0 < span es) × (is_hole es (get_or (holes es) q 0) ≡ true)
+hole_place es q low =
+    let P = λ (x : ℕ). (x < span es) × (is_hole es x ≡ true) in
+    all_get P (holes es) q 0 low (filter_all P (is_hole es) (range_with_len 0 (span es)) (range_all (λ x. is_hole es x ≡ true → P x) (span es) (λ x hx e. (hx, e))))
+
+-- the places of a window that are no holes
 abbrev pub others : List ℕ → List ℕ
 others es = filter (λ x. not (is_hole es x)) (range_with_len 0 (span es + 1))
 
-abbrev pub given_at : List ℕ → List ℕ → List ℕ → ℕ → ℕ
-given_at ks es v x = given ks v (get_or es 0 0 + x)
-
-pub window_sum : (ks es v : List ℕ) (u : ℕ) → IsStrictlyIncreasing es → 0 < length es → AllByRecursion (λ x. x < 2 ^ 16) v → u + length ks ≤ span es
-    → bit_xor (dot (shifted (locator ks) u (holes es)) (map (given_at ks es v) (holes es))) (dot (shifted (locator ks) u (others es)) (map (given_at ks es v) (others es))) ≡ 0
-window_sum ks es v u rise some is fit =
-    ap (λ hs. bit_xor (dot (shifted p u hs) (map g hs)) (dot (shifted p u (others es)) (map g (others es)))) (sym (holes_of_window es rise some))
-    ∙ sym (parted (shifted_at p u) g (is_hole es) (range_with_len 0 w))
-    ∙ shifted_sum p u w g inside
-    ∙ field_sum_same (length p) (λ k. mul (get_or p k 0) (g (u + k))) (λ k. mul (get_or p k 0) (given ks v (f + u + k)))
-    (λ k _. let e : f + (u + k) ≡ f + u + k = omega arith in ap (λ s. mul (get_or p k 0) (given ks v s)) e)
-    ∙ recurrence ks v (f + u) is
-  where
-    p : List ℕ
-    p = locator ks
-
-    f : ℕ
-    f = get_or es 0 0
-
-    w : ℕ
-    w = span es + 1
-
-    g : ℕ → ℕ
-    g = given_at ks es v
-
-    inside : u + length p ≤ w
-    inside = let long = length-with_roots (map constant ks) in let count = length-map ks constant in omega (arith, long, count, fit)
+-- a sum over the window is that over the holes plus that over the others
+pub window_parted : (es : List ℕ) (a g : ℕ → ℕ) → IsStrictlyIncreasing es → 0 < length es
+    → dot (map a (range_with_len 0 (span es + 1))) (map g (range_with_len 0 (span es + 1))) ≡ bit_xor (dot (map a (holes es)) (map g (holes es))) (dot (map a (others es)) (map g (others es)))
+window_parted es a g rise some =
+    parted a g (is_hole es) (range_with_len 0 (span es + 1))
+    ∙ ap (λ hs. bit_xor (dot (map a hs) (map g hs)) (dot (map a (others es)) (map g (others es)))) (holes_of_window es rise some)
 
 -- a number that is no hole is an exponent
 pub no_hole : (es : List ℕ) (x : ℕ) → is_hole es x ≡ false → Contains es (get_or es 0 0 + x)
@@ -348,23 +329,27 @@ holes_determine ks es n are rise some fit only v is killed =
     fits u low =
         let p = locator ks in
         let at_holes = dot (shifted p u (holes es)) (map g (holes es)) in
+        let long = length-with_roots (map constant ks) in
+        let count = length-map ks constant in
         sym (xor_zero_r at_holes)
-        ∙ ap (bit_xor at_holes) (sym (none_given (shifted_at p u) g (others es) (all_others (λ x. g x ≡ 0) (is_hole es) (range_with_len 0 w) at_exponent)))
-        ∙ window_sum ks es v u rise some is.1 (omega (arith, low, fit))
+        ∙ ap (bit_xor at_holes) (sym (none_given (shifted_at p u) g (others es) (filter_all (λ x. g x ≡ 0) (λ x. not (is_hole es x)) (range_with_len 0 w) (range_all (λ x. not (is_hole es x) ≡ true → g x ≡ 0) w (λ x _ e. at_exponent x (unset (is_hole es x) e))))))
+        ∙ sym (window_parted es (shifted_at p u) g rise some)
+        ∙ shifted_sum p u w g (omega (arith, long, count, low, fit))
+        ∙ field_sum_same (length p) (λ k. mul (get_or p k 0) (g (u + k))) (λ k. mul (get_or p k 0) (given ks v (f + u + k)))
+        (λ k _. let e : f + (u + k) ≡ f + u + k = omega arith in ap (λ s. mul (get_or p k 0) (given ks v s)) e)
+        ∙ recurrence ks v (f + u) is.1
 
-    zeros : AllByRecursion (λ x. g x ≡ 0) (range_with_len 0 w)
+    zeros : AllByRecursion (λ x. g x ≡ 0) (holes es)
     zeros =
-        all_parted (λ x. g x ≡ 0) (is_hole es) (range_with_len 0 w)
-        (subst (AllByRecursion (λ x. g x ≡ 0)) (sym (holes_of_window es rise some))
-        (all_unmap (λ x. x ≡ 0) g (holes es) (only (map g (holes es))
-        (length-map (holes es) g, all-each (λ x. x < 2 ^ 16) g (λ x. dot-lt (coefficients ks (f + x)) v (coefficients_are (f + x) ks) is.1) (holes es)) fits)))
-        at_exponent
+        all_unmap (λ x. x ≡ 0) g (holes es) (only (map g (holes es))
+        (length-map (holes es) g, all-each (λ x. x < 2 ^ 16) g (λ x. dot-lt (coefficients ks (f + x)) v (coefficients_are (f + x) ks) is.1) (holes es)) fits)
 
     zero_at : (i : ℕ) → i < w → g i ≡ 0
-    zero_at i low =
-        let long = length-range_with_len 0 w in
-        let at : get_or (range_with_len 0 w) i 0 ≡ i = get_or-range_with_len 0 w i 0 low ∙ (let e : 0 + i ≡ i = omega arith in e) in
-        subst (λ x. g x ≡ 0) at (all_get (λ x. g x ≡ 0) (range_with_len 0 w) i 0 (omega (arith, long, low)) zeros)
+    zero_at i low = step (is_hole es i) refl
+      where
+        step : (b : Bool) → is_hole es i ≡ b → given ks v (get_or es 0 0 + i) ≡ 0
+        step true e = of_contained (λ x. g x ≡ 0) (holes es) i zeros (hole_contained es i rise some (omega (arith, low)) e)
+        step false e = at_exponent i e
 
 -- if the first n exponents determine the lost slices, all do
 pub more_determine : (ks es : List ℕ) (n : ℕ) → IsRepairable ks (take n es) → IsRepairable ks es

@@ -1,15 +1,4 @@
 pub mod BufferContents
-pub mod Products
-pub mod Elements
-pub mod Survivors
-pub mod Inverses
-pub mod Syndromes
 pub mod Rebuilding
-pub mod RunInverses
-pub mod Located
-pub mod Filling
-pub mod Solvers
-pub mod Holes
+pub mod Inverses
 pub mod WrittenSlices
-pub mod Answers
-pub mod Spans

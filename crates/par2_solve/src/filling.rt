@@ -5,18 +5,16 @@
 //! (see `par2_transform`). So for L lost slices and g holes this takes about g x g x g products of words, and g x g
 //! products of syndromes beside those of numerators and locator.
 
-ghost use Rattle.std.specs.Prelude.{◌≡◌, ◌+◌, ◌%◌, ◌<◌, ◌≤◌, [], length, map, slice_index, take, IfOk, IfSome, IsTrue};
+ghost use Rattle.std.specs.Prelude.{◌≡◌, ◌+◌, ◌%◌, ◌<◌, ◌≤◌, ℕ, List, length, map, slice_index, take, IfOk, IfSome, IsTrue};
 ghost use Rattle.std.specs.List.{Contains};
 ghost use Rattle.par2_spec.specs.Sums.{lists_of};
-ghost use Rattle.par2_solve.specs.Filling.{AreOrigins, IsFilled, IsOriginAt, falling, filled_rows, from_last, from_origin, hole_rows, known_rows};
-ghost use Rattle.par2_solve.specs.Holes.{holes, span};
-ghost use Rattle.par2_solve.specs.Solvers.{InvertsFirst};
-ghost use Rattle.par2_solve.specs.Syndromes.{AreProducts};
-ghost use Rattle.par2_solve.specs.BufferContents.{buffers_of};
+ghost use Rattle.par2_solve.specs.Inverses.{AreOrigins, AreSolvedBy, InvertsFirst, IsInverseOf, IsOriginAt, falling, from_origin, holes, known_window, right_side, span};
+ghost use Rattle.par2_solve.specs.BufferContents.{AreSums, buffers_of};
+ghost use Rattle.par2_transform.specs.Columns.{words_at};
 
 use crate::exponents::{Exponents, Lost};
 use crate::holes::{Window, front, hole_inverse, locator};
-use crate::products::{Size, buffer_at, buffers_fit, products_of, source_at};
+use crate::products::{Size, buffer_at, buffers_fit, fit_lists, products_of, source_at};
 use crate::recovery::blank;
 use crate::run_locator::run_locator;
 use crate::solver::{Inverse, located_products};
@@ -164,7 +162,7 @@ impl<'a> Filling<'a> {
     // The syndromes of the window, the last number first. Those of the holes are empty.
     fn window<'b>(&self, alloc: Global, sources: &[&'b [u8]]) -> Result<Vec<&'b [u8]>>
         ensures { IfOk result (λ window. buffers_of window.items
-            ≡ from_last (from_origin (buffers_of sources.now) []) self.now.origins.items) }
+            ≡ known_window self.now.origins.items (buffers_of sources.now)) }
     {
         let last_first = self.origins.iter().rev();
         let window = last_first.map(|origin| source_of(*origin, sources, &[]));
@@ -179,37 +177,15 @@ impl<'a> Filling<'a> {
         size: Size,
         room: usize,
     ) -> Result<Vec<Vec<u8>>>
-        requires { IsFilled (length sources.now) self.now }
-        ensures { IfOk result
-            (λ sums. AreProducts size.bytes (known_rows self.now) (buffers_of sources.now)
-            (lists_of sums.items)) }
+        requires { length self.now.origins.items ≡ length self.now.equations.sequence.items }
+        ensures { IfOk result (λ sums. AreSums size.bytes self.now.equations.count
+            (right_side self.now (buffers_of sources.now)) (lists_of sums.items)) }
     {
-        buffers_fit(sources);
         let window = self.window(alloc, sources)?;
         let mut sums = blank(alloc, self.equations.count, size.bytes)?;
         self.equations
             .add_sums(alloc, &window, size.bytes / 2, sums.as_mut_slice(), room)?;
         Ok(sums)
-    }
-
-    // The syndromes of the holes, of `size` bytes each, from those of the exponents (`sources`): the inverse of the
-    // equations' matrix times their right-hand sides.
-    fn hole_products(
-        &self,
-        alloc: Global,
-        gf: &Gf,
-        sources: &[&[u8]],
-        size: Size,
-        room: usize,
-    ) -> Result<Vec<Vec<u8>>>
-        requires { IsFilled (length sources.now) self.now }
-        ensures { IfOk result
-            (λ sums. AreProducts size.bytes (hole_rows self.now) (buffers_of sources.now)
-            (lists_of sums.items)) }
-    {
-        buffers_fit(sources);
-        let right = self.right_sides(alloc, sources, size, room)?;
-        products_of(alloc, gf, &self.holes, &borrowed(alloc, &right)?, size)
     }
 
     // The syndromes of the run, in order: each is that of an exponent (`sources`) or of a hole, as its origin says.
@@ -219,21 +195,18 @@ impl<'a> Filling<'a> {
         sources: &[&'c [u8]],
         holes: &'b [Vec<u8>],
     ) -> Result<Vec<&'b [u8]>>
-        requires { IsFilled (length sources.now) self.now }
         ensures { IfOk result (λ run. buffers_of run.items ≡ map
             (from_origin (buffers_of sources.now) (lists_of holes.now))
             (take (length sources.now) self.now.origins.items)) }
     {
-        let mut run = Vec::with_capacity(alloc, sources.len())?;
-        for x in 0..sources.len() {
-            run.push(source_of(self.origins[x], sources, holes))?;
-        }
-        Ok(run)
+        let run = self.origins.iter().take(sources.len());
+        run.map(|origin| source_of(*origin, sources, holes))
+            .collect(alloc)
     }
 
     /// The product of the inverse and the syndromes of the kept exponents (`sources`), of `size` bytes each: for each
-    /// lost slice a buffer. It computes the holes' syndromes, and the locator solves the run. `room` is memory in
-    /// bytes.
+    /// lost slice a buffer. The inverse of the equations' matrix times their right-hand sides gives the holes'
+    /// syndromes, and the locator solves the run. `room` is memory in bytes.
     pub(crate) fn products(
         &self,
         alloc: Global,
@@ -242,13 +215,19 @@ impl<'a> Filling<'a> {
         size: Size,
         room: usize,
     ) -> Result<Vec<Vec<u8>>>
-        requires { IsFilled (length sources.now) self.now }
-        ensures { IfOk result (λ sums. AreProducts size.bytes (filled_rows self.now)
-            (buffers_of sources.now) (lists_of sums.items)) }
+        requires { IsInverseOf (length sources.now) (Inverse.Filled self.now) }
+        ensures { IfOk result (λ sums. (exponents : List ℕ) → AreSolvedBy (Inverse.Filled self.now)
+            size.bytes exponents (words_at (buffers_of sources.now)) (lists_of sums.items)) }
     {
-        buffers_fit(sources);
-        let holes = self.hole_products(alloc, gf, sources, size, room)?;
+        let right = self.right_sides(alloc, sources, size, room)?;
+        let holes = products_of(alloc, gf, &self.holes, &borrowed(alloc, &right)?, size)?;
         let run = self.run(alloc, sources, &holes)?;
-        located_products(alloc, &self.locator, &run, size, room)
+        let sums = located_products(alloc, &self.locator, &run, size, room)?;
+        buffers_fit(sources);
+        buffers_fit(&run);
+        fit_lists(&right);
+        fit_lists(&holes);
+        fit_lists(&sums);
+        Ok(sums)
     }
 }

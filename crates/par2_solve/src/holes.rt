@@ -10,7 +10,7 @@ ghost use Rattle.std.specs.Prelude.{◌≡◌, ℕ, ◌+◌, ◌*◌, ◌<◌, �
 ghost use Rattle.std.specs.List.Sorted.{IsStrictlyIncreasing};
 ghost use Rattle.par2_spec.specs.Rank.{IsRepairable};
 ghost use Rattle.par2_spec.specs.Sums.{lists_of};
-ghost use Rattle.par2_solve.specs.Holes.{shifted_at, shifted, span, is_hole, holes, locator, AreHoleEquations, AreHoleInverse, OnlyZeroFits};
+ghost use Rattle.par2_solve.specs.Inverses.{AreHoleEquations, AreHoleInverse, holes, is_hole, locator, shifted, shifted_at, span};
 
 use crate::exponents::{Exponents, are_slices, coefficients};
 use crate::inverse::{rows_of, unit};
@@ -142,18 +142,6 @@ pub(crate) fn locator(alloc: Global, gf: &Gf, lost: &[u32]) -> Result<Vec<u16>>
     with_roots(alloc, gf, &constants)
 }
 
-// Whether the first `count` equations of the holes at these places are independent and as many as the holes. Then they
-// determine the holes' sums, and the exponents around the holes determine the lost slices.
-fn are_regular(alloc: Global, gf: &Gf, lost: &[u32], places: &[u32], count: usize) -> Result<bool>
-    ensures { IfOk result (λ yes. IsTrue yes → OnlyZeroFits (locator lost.now) places.now count) }
-{
-    let locator = locator(alloc, gf, lost)?;
-    match hole_system(alloc, gf, &locator, places, 0, count)? {
-        Some(system) => Ok(system.rank() == places.len()),
-        None => Ok(false),
-    }
-}
-
 /// The rows of the inverse of the matrix of the first `count` equations of the holes at these places, for `Filling`.
 /// None if they are dependent or fewer than the holes. An error is that memory ran out.
 pub(crate) fn hole_inverse(
@@ -192,5 +180,9 @@ pub(crate) fn determine(alloc: Global, gf: &Gf, lost: &[u32], exponents: &Expone
         return Ok(false);
     };
     let places = first.holes(alloc)?;
-    are_regular(alloc, gf, lost, &places, first.count_equations())
+    let locator = locator(alloc, gf, lost)?;
+    match hole_system(alloc, gf, &locator, &places, 0, first.count_equations())? {
+        Some(system) => Ok(system.rank() == places.len()),
+        None => Ok(false),
+    }
 }

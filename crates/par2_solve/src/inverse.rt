@@ -3,22 +3,16 @@
 //! equations of all exponents to a system in order, with unit vectors on the right-hand side, whose solution is the
 //! inverse.
 
-ghost use Rattle.std.specs.Prelude.{◌≡◌, ◌≢◌, ℕ, ◌*◌, ◌<◌, ◌≤◌, length, map, IfErr, IfOk, IsOk, Ok, ◌%◌, IfSome, IsNone};
+ghost use Rattle.std.specs.Prelude.{◌≡◌, ℕ, ◌*◌, ◌<◌, ◌≤◌, length, map, IfErr, IfOk, IsOk, ◌%◌, IfSome, IsNone};
 ghost use Rattle.std.specs.List.Sorted.{IsStrictlyIncreasing};
 ghost use Rattle.par2_spec.specs.Rank.{IsRepairable};
-ghost use Rattle.par2_spec.specs.Recovery.{coefficients};
 ghost use Rattle.par2_spec.specs.Sums.{lists_of, list_at};
-ghost use Rattle.par2_solve.specs.Answers.{HasInverse, KeepsThose};
+ghost use Rattle.par2_solve.specs.Inverses.{AreByteRows, BeginsWithRun, HasInverse, InvertsFirst, IsEliminated, IsUnit, KeepsThose};
 ghost use Rattle.par2_solve.specs.BufferContents.{buffers_of};
-ghost use Rattle.par2_solve.specs.Survivors.{recovered_of, exponents_of, IsTrueFault};
-ghost use Rattle.par2_solve.specs.Inverses.{CutByUnit, IsEliminated};
+ghost use Rattle.par2_solve.specs.Rebuilding.{IsTrueFault, exponents_of, recovered_of};
 ghost use Rattle.par2_matrix.specs.Echelon.{HoldsRow};
-ghost use Rattle.par2_matrix.specs.Systems.{IsIndependent, IsDependent};
-ghost use Rattle.par2_solve.specs.Elements.{AreByteRows, IsUnit};
-ghost use Rattle.par2_solve.specs.RunInverses.{BeginsWithRun};
-ghost use Rattle.par2_solve.specs.Solvers.{InvertsFirst};
 
-use crate::exponents::{Exponents, Lost, offer};
+use crate::exponents::{Exponents, Lost, coefficients};
 use crate::filling::inverse_over_holes;
 use crate::products::buffer_at;
 use crate::rebuild_slices::RebuildFault;
@@ -29,12 +23,12 @@ use par2_matrix::{Offer, System, element, put_element};
 use par2_spec::Result;
 use std::alloc::Global;
 
-// The recovery slices of the kept exponents in order, and the system of their equations. The right-hand side of
-// equation `j` is unit vector `j`.
+/// The recovery slices of the kept exponents in order, and the system of their equations. The right-hand side of
+/// equation `j` is unit vector `j`, if there are that many units.
 #[derive(Drop)]
-struct Elimination<'a> {
-    kept: Vec<(u32, &'a [u8])>,
-    system: System,
+pub(crate) struct Elimination<'a> {
+    pub(crate) kept: Vec<(u32, &'a [u8])>,
+    pub(crate) system: System,
 }
 
 /// The recovery slices of the kept exponents in order, and the inverse of the matrix of their coefficients for the lost
@@ -45,45 +39,31 @@ pub(crate) struct Inversion<'a> {
     pub(crate) inverse: Inverse<'a>,
 }
 
-// Offers the equation of exponent `e`. Its right-hand side is the unit vector of its number among the kept ones, so
-// that the solution of the system is the inverse. `CutByUnit`: the equation was kept with this right-hand side.
-fn offer_unit(alloc: Global, gf: &Gf, system: &mut System, lost: &Lost, e: u32) -> Result<Offer>
-    // The system has a column for each lost slice, and right-hand sides of as many elements.
-    requires columns { system.old.columns ≡ length lost.now.numbers.now }
-    requires bytes { system.old.bytes ≡ 2 * length lost.now.numbers.now }
-    // The result says whether the row was independent of those kept before, and a kept one is added
-    // to the system.
-    ensures kept { result ≡ Ok Offer.Kept
-        → CutByUnit system.old system.new (coefficients lost.now.numbers.now e) }
-    ensures reported { result ≡ Ok Offer.Kept
-        → IsIndependent system.old (coefficients lost.now.numbers.now e) }
-    ensures dependent { result ≡ Ok Offer.Dependent
-        → IsDependent system.old (coefficients lost.now.numbers.now e) }
-    // The shape never changes, and the system changes only if the equation is kept.
-    ensures columns { system.new.columns ≡ system.old.columns }
-    ensures bytes { system.new.bytes ≡ system.old.bytes }
-    ensures unchanged { result ≢ Ok Offer.Kept → system.new ≡ system.old }
-{
-    let right = unit(alloc, lost.numbers.len(), system.rank())?;
-    offer(alloc, gf, system, lost.numbers, e, right)
-}
-
-// Offers the equations of the recovery slices in order, and collects the recovery slices whose equations are kept.
-fn eliminate<'a>(
+/// Offers the equations of the recovery slices for the `lost` slices in order, and collects the recovery slices whose
+/// equations are kept. A right-hand side is the unit vector, of `units` elements, of the equation's number among the
+/// kept ones, so that the solution of the system is the inverse. At full rank no row is computed.
+pub(crate) fn eliminate<'a>(
     alloc: Global,
     gf: &Gf,
-    lost: &Lost,
+    lost: &[u32],
     recovery: &[(u32, &'a [u8])],
+    units: usize,
 ) -> Result<Elimination<'a>>
-    requires { IsStrictlyIncreasing (exponents_of recovery.now) }
-    ensures { IfOk result (λ found. IsEliminated lost.now.numbers.now
+    requires rise { IsStrictlyIncreasing (exponents_of recovery.now) }
+    requires units { units < 65536 }
+    ensures { IfOk result (λ found. IsEliminated lost.now units
         (recovered_of recovery.now) (recovered_of found.kept.items) found.system) }
 {
-    let mut system = System::new(alloc, lost.numbers.len(), 2 * lost.numbers.len())?;
+    let mut system = System::new(alloc, lost.len(), 2 * units)?;
     let mut kept = Vec::new(alloc);
     for i in 0..recovery.len() {
         let slice = recovery[i];
-        match offer_unit(alloc, gf, &mut system, lost, slice.0)? {
+        if system.rank() == lost.len() {
+            continue;
+        }
+        let row = coefficients(alloc, gf, lost, slice.0)?;
+        let right = unit(alloc, units, system.rank())?;
+        match system.offer(gf, &row, right)? {
             Offer::Kept => kept.push(slice)?,
             Offer::Dependent => {}
         }
@@ -108,7 +88,13 @@ fn invert_by_elimination<'a>(
     ensures enough { IsOk result → IsRepairable lost.now.numbers.now (exponents_of recovery.now) }
     ensures refused { IfErr result (IsTrueFault lost.now.numbers.now (exponents_of recovery.now)) }
 {
-    let Elimination { kept, system } = eliminate(alloc, gf, lost, recovery)?;
+    let Elimination { kept, system } = eliminate(
+        alloc,
+        gf,
+        lost.numbers,
+        recovery,
+        lost.numbers.len(),
+    )?;
     let rank = system.rank();
     match system.into_solution() {
         Ok(buffers) => Ok(Inversion {

@@ -5,11 +5,7 @@
 ghost use Rattle.std.specs.Prelude.{◌≡◌, ℕ, ◌+◌, ◌*◌, ◌%◌, ◌^◌, ◌<◌, ◌≤◌, length, map, slice_index, IfOk};
 ghost use Rattle.par2_gf16.specs.WordLoops.{AddsWithin};
 ghost use Rattle.par2_spec.specs.Sums.{OneChanged, list_at, lists_of};
-ghost use Rattle.par2_solve.specs.Answers.{HaveAtLeast, HaveItem};
-ghost use Rattle.par2_solve.specs.Products.{AddsSource, Adds, AreByteLists};
-ghost use Rattle.par2_solve.specs.Survivors.{bytes_or_none, recovered_of};
-ghost use Rattle.par2_solve.specs.Syndromes.{AreProducts};
-ghost use Rattle.par2_solve.specs.BufferContents.{buffers_of};
+ghost use Rattle.par2_solve.specs.BufferContents.{Adds, AddsSource, AreByteLists, AreProducts, HaveAtLeast, HaveItem, buffers_of};
 
 use crate::recovery::blank;
 use par2_gf16::{Columns, Factor, Gf};
@@ -178,42 +174,6 @@ pub(crate) fn fit_lists(buffers: &[Vec<u8>])
 {
     for i in 0..buffers.len() {
         fit_bytes(buffer_at(buffers, i));
-    }
-}
-
-// The bytes of slice `k`, none if it is lost.
-#[inline(always)]
-fn known_at<'a>(known: &[Option<&'a [u8]>], k: usize) -> &'a [u8]
-    requires { k < length known.now }
-    ensures { result.now ≡ list_at (map bytes_or_none known.now) k }
-{
-    known[k].unwrap_or(&[])
-}
-
-/// For the prover: each item of the known slices is a byte.
-pub(crate) fn fit_known(known: &[Option<&[u8]>])
-    ensures { AreByteLists (map bytes_or_none known.now) }
-{
-    for i in 0..known.len() {
-        fit_bytes(known_at(known, i));
-    }
-}
-
-// The bytes of recovery slice `k` of the list, whatever its exponent.
-#[inline(always)]
-fn recovered_at<'a>(recovery: &[(u32, &'a [u8])], k: usize) -> &'a [u8]
-    requires { k < length recovery.now }
-    ensures { result.now ≡ list_at (map (λ r. r.1) (recovered_of recovery.now)) k }
-{
-    recovery[k].1
-}
-
-/// For the prover: each item of the recovery slices is a byte.
-pub(crate) fn fit_recovery(recovery: &[(u32, &[u8])])
-    ensures { AreByteLists (map (λ r. r.1) (recovered_of recovery.now)) }
-{
-    for i in 0..recovery.len() {
-        fit_bytes(recovered_at(recovery, i));
     }
 }
 

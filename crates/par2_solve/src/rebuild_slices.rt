@@ -3,15 +3,14 @@
 
 ghost use Rattle.std.specs.Prelude.{◌≡◌, ◌≤◌, length, map, IfOk, IfErr, IsOk};
 ghost use Rattle.par2_spec.specs.Search.{lost};
-ghost use Rattle.par2_solve.specs.Answers.{lost_among, HasInverse, IsFaultOf, KeepsThose, Rebuild};
+ghost use Rattle.par2_solve.specs.Inverses.{HasInverse, KeepsThose};
+ghost use Rattle.par2_solve.specs.Rebuilding.{AnotherAlwaysAgrees, AreEnough, CanRebuild, IsFaultOf, IsNotRepairable, Rebuild, TwoAlwaysAgree, bytes_or_none, exponents_of, lost_among, lost_from};
 ghost use Rattle.par2_solve.specs.BufferContents.{buffers_of};
-ghost use Rattle.par2_solve.specs.Survivors.{exponents_of, lost_from, bytes_or_none};
-ghost use Rattle.par2_solve.specs.Rebuilding.{AnotherAlwaysAgrees, AreEnough, CanRebuild, IsNotRepairable, TwoAlwaysAgree};
 
 use crate::encoder::{Encoder, Recovered};
 use crate::exponents::Lost;
 use crate::inverse::{Inversion, bytes_of, exponents_of, invert};
-use crate::products::{Size, fit_known, fit_lists, fit_recovery};
+use crate::products::{Size, buffers_fit, fit_lists};
 use crate::room::rows_room;
 use crate::syndromes::solved;
 use par2_gf16::Gf;
@@ -124,8 +123,9 @@ pub fn rebuild(alloc: Global, gf: &Gf, survivors: &Survivors) -> Result<Vec<Vec<
 {
     another_list_agrees();
     two_lists_agree();
-    fit_known(&survivors.known);
-    fit_recovery(&survivors.recovery);
+    // For the prover: what the laws say of lists of slices holds of bytes.
+    buffers_fit(&slices_or_none(alloc, &survivors.known)?);
+    buffers_fit(&bytes_of(alloc, &survivors.recovery)?);
     let lost = lost_numbers(alloc, &survivors.known)?;
     let lost = Lost { numbers: &lost };
     let found = invert(alloc, gf, &lost, &survivors.recovery)?;

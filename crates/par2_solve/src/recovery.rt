@@ -3,8 +3,7 @@
 
 ghost use Rattle.std.specs.Prelude.{◌≡◌, ◌≤◌, length, IfOk};
 ghost use Rattle.par2_spec.specs.Sums.{lists_of};
-ghost use Rattle.par2_solve.specs.Answers.{LieIn};
-ghost use Rattle.par2_solve.specs.BufferContents.{buffers_of, AreBlank};
+ghost use Rattle.par2_solve.specs.BufferContents.{AreBlank, LieIn, buffers_of};
 ghost use Rattle.par2_solve.specs.WrittenSlices.{AreWritten, AreZeros};
 
 use crate::encoder::{Encoder, Targets};

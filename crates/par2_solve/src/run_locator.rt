@@ -2,14 +2,14 @@
 //! whose rows are the scaled quotients (see `run_inverse`), without computing any of them. `inverse_for_run` chooses
 //! between the rows and the locator.
 
-ghost use Rattle.std.specs.Prelude.{◌≡◌, ◌≢◌, ℕ, ◌<◌, ◌≤◌, ◌^◌, length, drop, slice_index, IfOk};
+ghost use Rattle.std.specs.Prelude.{◌≡◌, ◌≢◌, ℕ, ◌<◌, ◌≤◌, length, drop, slice_index, IfOk};
 ghost use Rattle.std.specs.List.{range_with_len};
 ghost use Rattle.par2_spec.specs.Field.{mul, pow};
 ghost use Rattle.par2_spec.specs.Polynomials.{value, quotient};
-ghost use Rattle.par2_solve.specs.Solvers.{AreFactors, Inverts};
+ghost use Rattle.par2_solve.specs.Inverses.{AreFactors, Inverts};
 
 use crate::exponents::{Lost, coefficients};
-use crate::run_inverse::{derivative, inverse_of, run_inverse, with_roots};
+use crate::run_inverse::{derivatives, factor, run_inverse, with_roots};
 use crate::solver::Inverse;
 use par2_gf16::Gf;
 use par2_spec::Result;
@@ -19,16 +19,6 @@ use std::alloc::Global;
 /// The fewest lost slices for which the locator is faster than rows.
 pub(crate) const LOCATED: usize = 768;
 
-// The factor that scales the quotient for the constant `c` to a row of the inverse: 1 over `c ^ first` times the
-// derivative at `c`. `p` is the polynomial whose roots are the lost slices' constants, `c` among them.
-fn factor(gf: &Gf, p: &[u16], c: u16, first: u32) -> u16
-    requires { mul (pow c first) (value (quotient c p.now) c) ≢ 0 }
-    ensures product { mul (mul (pow c first) (value (quotient c p.now) c)) result ≡ 1 }
-    ensures small { result < 2 ^ 16 }
-{
-    inverse_of(gf, gf.mul(gf.pow(c, first), derivative(gf, p, c)))
-}
-
 // The factors for the lost slices' constants `points`, for the exponents from `first` on. `p` is the polynomial whose
 // roots are these constants.
 fn factors(alloc: Global, gf: &Gf, p: &[u16], points: &[u16], first: u32) -> Result<Vec<u16>>
@@ -37,9 +27,10 @@ fn factors(alloc: Global, gf: &Gf, p: &[u16], points: &[u16], first: u32) -> Res
     ensures { IfOk result (λ factors. AreFactors
         first p.now points.now factors.items (length points.now)) }
 {
+    let derivatives = derivatives(alloc, gf, p, points)?;
     let mut factors = Vec::with_capacity(alloc, points.len())?;
     for j in 0..points.len() {
-        factors.push(factor(gf, p, points[j], first))?;
+        factors.push(factor(gf, derivatives[j], points[j], first))?;
     }
     Ok(factors)
 }

@@ -1,15 +1,14 @@
 //! The inverse of the matrix of the kept exponents, in one of three forms, and its product with the syndromes, which
 //! gives the lost slices.
 
-ghost use Rattle.std.specs.Prelude.{◌≡◌, ◌%◌, ◌<◌, length, IfOk};
+ghost use Rattle.std.specs.Prelude.{◌≡◌, ℕ, List, ◌%◌, ◌<◌, length, IfOk};
 ghost use Rattle.par2_spec.specs.Sums.{lists_of};
-ghost use Rattle.par2_solve.specs.Located.{located_rows};
-ghost use Rattle.par2_solve.specs.Solvers.{TakesSources, rows_of};
-ghost use Rattle.par2_solve.specs.Syndromes.{AreProducts};
-ghost use Rattle.par2_solve.specs.BufferContents.{buffers_of};
+ghost use Rattle.par2_solve.specs.Inverses.{AreSolvedBy, Inverts, IsInverseOf, located_rows};
+ghost use Rattle.par2_solve.specs.BufferContents.{AreProducts, buffers_of};
+ghost use Rattle.par2_transform.specs.Columns.{words_at};
 
 use crate::filling::Filling;
-use crate::products::{Size, products_of};
+use crate::products::{Size, buffers_fit, products_of};
 use crate::recovery::blank;
 use par2_gf16::Gf;
 use par2_spec::Result;
@@ -18,7 +17,7 @@ use std::alloc::Global;
 
 // The fewest bytes of each slice that are solved at a time by rows. All rows are read for each of these blocks, and for
 // a short block this takes longer than the products.
-const LEAST: usize = 2048;
+const LEAST: usize = 4096;
 
 /// The inverse of the matrix of the kept exponents: its rows, or a form by which it is applied without computing them.
 #[derive(Drop)]
@@ -50,9 +49,8 @@ pub(crate) fn located_products(
 
 impl<'a> Inverse<'a> {
     /// The number of rows, which is that of the lost slices.
-    #[tactic(auto, using(crate::proofs::Locating::rows_long, crate::proofs::Locating::located_long))]
     pub(crate) fn len(&self) -> usize
-        ensures { result ≡ length (rows_of self.now) }
+        ensures { (lost exponents : List ℕ) → Inverts lost exponents self.now → result ≡ length lost }
     {
         match self {
             Inverse::Rows(rows) => rows.len(),
@@ -74,8 +72,8 @@ impl<'a> Inverse<'a> {
     }
 
     /// The product of the inverse and the sources, which are the syndromes of the kept exponents: for each lost slice a
-    /// buffer of `size` bytes. `room` is the memory that a locator may take, in bytes. `TakesSources`: the inverse has
-    /// a column for each source.
+    /// buffer of `size` bytes. `room` is the memory that a locator may take, in bytes. `AreSolvedBy`: for the exponents of
+    /// which it is the inverse, the buffers solve the equations.
     pub(crate) fn products(
         &self,
         alloc: Global,
@@ -84,10 +82,11 @@ impl<'a> Inverse<'a> {
         size: Size,
         room: usize,
     ) -> Result<Vec<Vec<u8>>>
-        requires { TakesSources (length sources.now) self.now }
-        ensures { IfOk result (λ sums. AreProducts size.bytes
-            (rows_of self.now) (buffers_of sources.now) (lists_of sums.items)) }
+        requires { IsInverseOf (length sources.now) self.now }
+        ensures { IfOk result (λ sums. (exponents : List ℕ) → AreSolvedBy self.now size.bytes exponents
+            (words_at (buffers_of sources.now)) (lists_of sums.items)) }
     {
+        buffers_fit(sources);
         match self {
             Inverse::Rows(rows) => products_of(alloc, gf, rows, sources, size),
             Inverse::Located(locator) => located_products(alloc, locator, sources, size, room),

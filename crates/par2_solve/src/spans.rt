@@ -4,8 +4,7 @@
 
 ghost use Rattle.std.specs.Prelude.{◌≡◌, ◌-◌, ◌≤◌, length, map, slice_index, IfOk, IfSome, IsTrue, OnOk};
 ghost use Rattle.par2_spec.specs.Sums.{list_at, lists_of};
-ghost use Rattle.par2_solve.specs.Answers.{AddsRecovery, LieIn};
-ghost use Rattle.par2_solve.specs.Spans.{AreWithin, IsSpanOf, picked};
+ghost use Rattle.par2_solve.specs.BufferContents.{AddsRecovery, AreWithin, IsSpanOf, LieIn, picked};
 
 use crate::additions::{add_sums, are_together, fit_output};
 use crate::encoder::{Encoder, Targets};

@@ -4,11 +4,8 @@
 
 ghost use Rattle.std.specs.Prelude.{◌≡◌, ◌%◌, ◌<◌, ◌+◌, ◌++◌, length, map, IfOk};
 ghost use Rattle.par2_spec.specs.Sums.{OneChanged, list_at, lists_of};
-ghost use Rattle.par2_solve.specs.Answers.{AreOfSize, HaveColumns};
-ghost use Rattle.par2_solve.specs.Products.{AreByteLists};
-ghost use Rattle.par2_solve.specs.Solvers.{TakesSources, rows_of};
-ghost use Rattle.par2_solve.specs.Syndromes.{chunk, AreSolved, AreExtended};
-ghost use Rattle.par2_solve.specs.BufferContents.{buffers_of, AreBlank};
+ghost use Rattle.par2_solve.specs.BufferContents.{AreBlank, AreByteLists, AreExtended, AreOfSize, HaveColumns, buffers_of, chunk, syndrome};
+ghost use Rattle.par2_solve.specs.Inverses.{AreSolvedBy, IsInverseFor};
 
 use crate::encoder::{Encoder, Recovered};
 use crate::products::{Size, buffer_at, buffers_fit};
@@ -55,15 +52,15 @@ fn solved_block(
     from: usize,
     size: Size,
 ) -> Result<Vec<Vec<u8>>>
-    // The inverse has a column for each recovery slice.
-    requires inverse { TakesSources (length kept.now.slices.now) inverse.now }
+    // The inverse is that for the exponents.
+    requires inverse { IsInverseFor kept.now.exponents.now inverse.now }
     // The bytes are whole words that each recovery slice has.
     requires size { HaveColumns (from + size.bytes) kept.now.slices.now }
-    // The result is the inverse times the syndromes of these bytes.
-    ensures { IfOk result (λ buffers. AreSolved size.bytes
-        (rows_of inverse.now) kept.now.exponents.now
+    // The result solves the equations with the syndromes of these bytes.
+    ensures { IfOk result (λ buffers. AreSolvedBy inverse.now size.bytes kept.now.exponents.now
+        (syndrome kept.now.exponents.now
         (map (chunk from size.bytes) (buffers_of encoder.now.slices.now))
-        (map (chunk from size.bytes) (buffers_of kept.now.slices.now)) (lists_of buffers.items)) }
+        (map (chunk from size.bytes) (buffers_of kept.now.slices.now))) (lists_of buffers.items)) }
 {
     let Encoder { gf, slices, room } = *encoder;
     let slices = windows(alloc, slices, from, size.bytes)?;
@@ -122,14 +119,14 @@ pub(crate) fn solved(
     kept: &Recovered,
     size: Size,
 ) -> Result<Vec<Vec<u8>>>
-    // The inverse has a column for each recovery slice.
-    requires inverse { TakesSources (length kept.now.slices.now) inverse.now }
+    // The inverse is that for the exponents.
+    requires inverse { IsInverseFor kept.now.exponents.now inverse.now }
     // Recovery slices are all of this size.
     requires size { AreOfSize size.bytes kept.now.slices.now }
-    // The result is the inverse times the syndromes.
-    ensures solved { IfOk result (λ buffers. AreSolved size.bytes
-        (rows_of inverse.now) kept.now.exponents.now
-        (buffers_of encoder.now.slices.now) (buffers_of kept.now.slices.now)
+    // The result solves the equations with the syndromes.
+    ensures solved { IfOk result (λ buffers. AreSolvedBy inverse.now size.bytes kept.now.exponents.now
+        (syndrome kept.now.exponents.now
+        (buffers_of encoder.now.slices.now) (buffers_of kept.now.slices.now))
         (lists_of buffers.items)) }
     // For the prover: each item of the slices is a byte.
     ensures slices { IfOk result (λ _. AreByteLists (buffers_of encoder.now.slices.now)) }

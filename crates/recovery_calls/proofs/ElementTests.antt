@@ -2,7 +2,7 @@
 use Rattle.recovery_calls.proofs.Common.{ℕ, suc, ◌<◌, ◌≤◌, ◌≡◌, refl, ap, subst, arith, List, [], ◌∷◌, length, map, All, IfSome, Option, Some, None, Bor, AllByRecursion, AllAdjacentBelow}
 use Rattle.std.specs.List.Sorted.{IsStrictlyIncreasing}
 use Rattle.par2_spec.proofs.ListsLaws.{increasing}
-use Rattle.par2_solve.specs.Survivors.{known_alone, recovered_of, exponents_of}
+use Rattle.par2_solve.specs.Rebuilding.{exponents_of, known_alone, recovered_of}
 
 each_mapped : {A B : Type 0} (f : A → B) (P : B → Type 0) (xs : List A) → All (λ x. P (f x)) xs → AllByRecursion P (map f xs)
 each_mapped f P [] h = tt

@@ -1,15 +1,18 @@
-use Rattle.par2_solve.proofs.Common.{◌≡◌, ◌∙◌, arith, length}
-use Rattle.par2_solve.proofs.Ranks.{offered, all_offered}
+use Rattle.par2_solve.proofs.Common.{rules, ℕ, List, Bor, ◌≡◌, ◌∙◌, ap, subst, sym, map, map-map, YieldsList-from_map_by, YieldsList-from_slice, map_from_collect, exponents_of, IsStrictlyIncreasing, rank}
+use Rattle.std.proofs.lemmas.List.{map-id}
+use Rattle.std.specs.Prelude.{Ok}
+use Rattle.par2_solve.proofs.exponents.rank_by_elimination.Goals.{After-deref}
 use Rattle.par2_solve.proofs.exponents.rank_by_elimination.Goals as goal
 
-pub loop-i-preserved : goal.loop-i-preserved
-loop-i-preserved c = record {
-  so_far = offered c.args.lost.now c.args.exponents.now c.loop-i.i c.loop-i.system c.offer.new.system c.new-in-loop-i.result.items c.offer.result c.in_ok-offer.field-0 c.in_ok-offer.was c.requires (omega arith)
-      c.loop-i.invariant.so_far c.offer.ensures.columns c.offer.ensures.kept c.offer.ensures.reported c.offer.ensures.dependent c.offer.ensures.unchanged;
-  bytes = c.offer.ensures.bytes ∙ c.loop-i.invariant.bytes;
-}
+same : (c : After-deref) → exponents_of c.deref.result.now ≡ c.args.exponents.now
+same c =
+    map-map (λ (r : ℕ × List ℕ). r.0) (λ (r : ℕ × Bor (List ℕ)). (r.0, r.1.now)) c.deref.result.now
+    ∙ ap (map (λ (r : ℕ × Bor (List ℕ)). r.0)) c.deref.ensures.value
+    ∙ map_from_collect {E = ℕ} (Ok c.in_ok-unread.unread) c.in_ok-unread.ensures.ran (YieldsList-from_map_by _ (λ (r : ℕ × Bor (List ℕ)). r.0) (λ (e : ℕ). e) (YieldsList-from_slice c.args.exponents.now (cc)) c.map.ensures.closure (λ x r q k. search rules))
+    ∙ map-id c.args.exponents.now
+
+pub eliminate-requires-clause-rise : goal.eliminate-requires-clause-rise
+eliminate-requires-clause-rise c = subst IsStrictlyIncreasing (sym (same (goal.at.eliminate-requires-clause-rise c).After-deref)) c.requires
 
 pub returns : goal.returns
-returns c =
-    let at_end : c.loop-i.i ≡ length c.args.exponents.now = omega (arith, c.loop-i-test.false, c.loop-i.auto.i-end) in
-    c.rank.ensures.value ∙ all_offered c.args.lost.now c.args.exponents.now c.loop-i.i c.loop-i.system at_end c.loop-i.invariant.so_far
+returns c = c.rank.ensures.value ∙ c.in_ok-found.ensures.rank ∙ ap (rank c.args.lost.now) (same (goal.at.returns c).After-deref)

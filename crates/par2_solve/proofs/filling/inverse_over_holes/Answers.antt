@@ -1,16 +1,11 @@
-use Rattle.par2_solve.proofs.Common.{◌≡◌, ◌+◌, ◌≤◌, ◌∙◌, ℕ, List, ap, ap₂, arith, rules, subst, length, length-take, lists_of, IsRepairable}
-use Rattle.par2_solve.specs.Filling.{falling}
-use Rattle.par2_solve.specs.Holes.{AreHoleInverse, holes, locator, span}
-use Rattle.par2_solve.specs.Solvers.{Inverts}
+use Rattle.par2_solve.proofs.Common.{◌≡◌, ◌+◌, ◌≤◌, ◌∙◌, ℕ, List, ap, ap₂, arith, rules, sym, subst, length, length-take, lists_of, IsRepairable}
+use Rattle.par2_solve.specs.Inverses.{AreHoleInverse, Inverts, falling, holes, locator, span}
 use Rattle.par2_solve.specs.declared.filling.Filling.{Filling}
 use Rattle.par2_solve.specs.declared.solver.Inverse.TheVariants.{Filled}
-use Rattle.par2_solve.proofs.Filled.{inverts_over_holes}
-use Rattle.par2_solve.proofs.RightSides.{falling_long}
+use Rattle.par2_solve.proofs.Filled.{falling_long}
 use Rattle.par2_solve.proofs.Runs.{slices_of}
+use Rattle.par2_solve.proofs.Windows.{holes_determine}
 use Rattle.par2_solve.proofs.filling.inverse_over_holes.Goals as goal
-
-pub hole_inverse-requires : goal.hole_inverse-requires
-hole_inverse-requires c = omega (arith, c.count_equations-count.ensures, c.in-Some.ensures.near, c.in-Some.ensures.count, c.args.lost.now.count)
 
 pub new-requires : goal.new-requires
 new-requires c =
@@ -31,9 +26,16 @@ returns c =
     let filling : Filling = record { equations = c.in_ok-new.field-0; holes = c.in-Some-2.inverse; origins = c.in_ok-origins.field-0; locator = c.in_ok-run_locator.field-0 } in
     let window : length es + n ≡ span es + 1 = omega (arith, fit) in
     let sequence : c.in_ok-new.field-0.sequence.items ≡ falling (locator ks) (span es + 1) = c.in_ok-new.ensures.sequence ∙ c.in_ok-falling.ensures ∙ ap₂ falling p window in
-    let both = inverts_over_holes ks es n filling (slices_of c.args.lost.now) c.in-Some.first.rise c.in-Some.first.some c.in-Some.ensures.count fit c.in_ok-new.ensures.count sequence inverse c.in_ok-origins.ensures c.in_ok-run_locator.ensures in
     record {
       within = (let least = length-take (length ks) c.args.exponents.now.numbers.now in let long = ap (λ (xs : List ℕ). length xs) c.in-Some.ensures.first in let count = c.in-Some.ensures.count in omega (arith, least, long, count));
-      inverts = subst (λ xs. Inverts ks xs (Filled filling)) c.in-Some.ensures.first both.0;
-      enough = subst (IsRepairable ks) c.in-Some.ensures.first both.1;
+      inverts = subst (λ xs. Inverts ks xs (Filled filling)) c.in-Some.ensures.first (record {
+        square = c.in-Some.ensures.count;
+        rise = c.in-Some.first.rise;
+        fit = ap (λ m. m + length es) c.in_ok-new.ensures.count ∙ fit;
+        sequence = sequence;
+        holes = subst (λ m. AreHoleInverse (locator ks) (holes es) m (lists_of filling.holes.items)) (sym c.in_ok-new.ensures.count) inverse;
+        origins = c.in_ok-origins.ensures;
+        run = c.in_ok-run_locator.ensures;
+      });
+      enough = subst (IsRepairable ks) c.in-Some.ensures.first (holes_determine ks es n (slices_of c.args.lost.now) c.in-Some.first.rise c.in-Some.first.some (let count = c.in-Some.ensures.count in omega (arith, fit, count)) inverse.only);
     }

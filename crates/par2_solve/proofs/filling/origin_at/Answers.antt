@@ -1,18 +1,10 @@
-use Rattle.par2_solve.proofs.Common.{rules, ◌+◌, ◌-◌, ◌≡◌, ◌<◌, ◌^◌, true, length, get_or, arith, sym, subst, Contains, Fits-lt-pow}
+use Rattle.par2_solve.proofs.Common.{◌+◌, ◌≡◌, true, get_or, arith, sym, subst, Contains}
 use Rattle.std.specs.Prelude.{Err}
 use Rattle.std.proofs.lemmas.List.Sorted.{searched}
-use Rattle.par2_solve.specs.Holes.{is_hole}
-use Rattle.par2_solve.proofs.Runs.{rises_between, rises_to_the_end}
+use Rattle.par2_solve.specs.Inverses.{is_hole}
+use Rattle.par2_solve.proofs.Runs.{rises_between}
 use Rattle.par2_solve.proofs.Windows.{searched_hole, hole_contained}
 use Rattle.par2_solve.proofs.filling.origin_at.Goals as goal
-
-pub overflow_add-exponents : goal.overflow_add-exponents
-overflow_add-exponents c =
-    let es = c.args.window.now.exponents.now in
-    let order = rises_to_the_end es c.args.window.now.rise c.args.window.now.some in
-    let last : get_or es (length es - 1) 0 < 2 ^ 32 = Fits-lt-pow (c.type_inv.exponents (length es - 1)) in
-    let small : get_or es 0 0 + c.args.x < 2 ^ 32 = omega (arith, order, last, c.requires.within) in
-    search (rules, small)
 
 pub hole_at-requires-clause-hole : goal.hole_at-requires-clause-hole
 hole_at-requires-clause-hole c =

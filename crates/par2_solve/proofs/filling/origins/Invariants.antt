@@ -1,4 +1,4 @@
-use Rattle.par2_solve.specs.Filling.{AreOrigins}
+use Rattle.par2_solve.specs.Inverses.{AreOrigins}
 use Rattle.par2_solve.proofs.filling.origins.Given as goal
 
 abbrev pub invariant-loop-x : goal.invariant-loop-x

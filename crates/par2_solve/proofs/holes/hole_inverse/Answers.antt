@@ -1,5 +1,5 @@
 use Rattle.par2_solve.proofs.Common.{◌^◌, ◌<◌, ◌≡◌, arith, lists_of, length-lists_of, all_from, Fits-lt-pow}
-use Rattle.par2_solve.specs.Holes.{AreHoleEquations}
+use Rattle.par2_solve.specs.Inverses.{AreHoleEquations}
 use Rattle.par2_solve.proofs.Fillings.{are_hole_inverse}
 use Rattle.par2_solve.proofs.holes.hole_inverse.Goals as goal
 

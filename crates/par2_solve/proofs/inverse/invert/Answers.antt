@@ -1,24 +1,12 @@
-use Rattle.par2_solve.proofs.Common.{◌∙◌, sym, arith, length, List, ℕ, length-map, length-take-le, recovered_of, exponents_of}
-use Rattle.par2_solve.specs.Solvers.{InvertsFirst}
+use Rattle.par2_solve.proofs.Common.{◌∙◌, sym, length, recovered_of, exponents_of}
+use Rattle.par2_solve.specs.Inverses.{InvertsFirst}
 use Rattle.par2_solve.proofs.Beginnings.{kept_slices_first, recovered_front, exponents_front}
-use Rattle.par2_solve.proofs.Inverting.{length-recovered_of}
 use Rattle.par2_solve.proofs.Windows.{more_determine}
 use Rattle.par2_solve.proofs.inverse.invert.Goals.{In-Some}
 use Rattle.par2_solve.proofs.inverse.invert.Goals as goal
 
 first : (c : In-Some) → InvertsFirst c.args.lost.now.numbers.now (exponents_of c.args.recovery.now) c.in-Some.inverse
 first c = rw (c.in-Some.is, c.deref.ensures.value, c.in_ok-numbers.ensures) at c.in_ok-inverse.ensures
-
-pub invariant_of-exponents : goal.invariant_of-exponents
-invariant_of-exponents c = record { rise = rw (c.deref.ensures.value, c.in_ok-numbers.ensures) c.requires }
-
-pub slice_bounds-from_slice-end : goal.slice_bounds-from_slice-end
-slice_bounds-from_slice-end c =
-    let recovery = c.args.recovery.now in
-    let inner = length-recovered_of recovery in
-    let outer = length-map (recovered_of recovery) (λ (r : ℕ × List ℕ). r.0) in
-    let most = (first (goal.at.slice_bounds-from_slice-end c).In-Some).within in
-    sym (length-take-le (length c.args.lost.now.numbers.now) recovery (omega (arith, inner, outer, most)))
 
 pub returns-clause-kept : goal.returns-clause-kept
 returns-clause-kept c =

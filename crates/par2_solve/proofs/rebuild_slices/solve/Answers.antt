@@ -1,7 +1,6 @@
-use Rattle.par2_solve.proofs.Common.{ℕ, ◌≡◌, ◌<◌, ◌∙◌, [], List, sym, ap, subst, arith, length, map, get_or-map, length-map, AllByRecursion, list_at, lists_of, all_get, all-filter, length-lists_of, AreByteLists, known_among, bytes_or_none, recovered_of, exponents_of, lost, buffers_of}
-use Rattle.par2_solve.specs.Solvers.{TakesSources, rows_of}
-use Rattle.par2_solve.proofs.Combinations.{length-buffers_of}
-use Rattle.par2_solve.proofs.Finishing.{answer, takes_sources}
+use Rattle.par2_solve.proofs.Common.{ℕ, ◌≡◌, ◌<◌, ◌∙◌, [], List, sym, ap, subst, arith, length, map, get_or-map, AllByRecursion, list_at, lists_of, all_get, all-filter, length-lists_of, AreByteLists, known_among, bytes_or_none, recovered_of, exponents_of, lost, buffers_of}
+use Rattle.par2_solve.specs.Inverses.{Inverts}
+use Rattle.par2_solve.proofs.Finishing.{answer, square}
 use Rattle.par2_solve.proofs.Inverting.{length-recovered_of, many_buffers}
 use Rattle.par2_solve.proofs.Rebuilding.{lost_are}
 use Rattle.par2_solve.proofs.rebuild_slices.solve.Goals.{After-as_slice-slices, After-deref-5}
@@ -20,16 +19,9 @@ many : (c : After-deref-5) → length c.deref-5.result.now ≡ length c.args.fou
 many c = many_buffers c.args.found.now.kept.items c.deref-5.result.now (recovery_are c)
 
 pub solved-requires-clause-inverse : goal.solved-requires-clause-inverse
-solved-requires-clause-inverse c = subst (λ n. TakesSources n c.args.found.now.inverse) (sym (many (goal.at.solved-requires-clause-inverse c).After-deref-5)) (takes_sources (lost (known_among c.args.survivors.now)) c.args.found.now.kept.items c.args.found.now.inverse c.requires.inverse)
-
-pub invariant_of-kept : goal.invariant_of-kept
-invariant_of-kept c =
-    let at = (goal.at.invariant_of-kept c).After-deref-5 in
-    record { count = ap length (exponents_are at) ∙ length-map (recovered_of c.args.found.now.kept.items) (λ (r : ℕ × List ℕ). r.0) ∙ length-recovered_of c.args.found.now.kept.items ∙ sym (many at) }
-
-pub invariant_of-encoder : goal.invariant_of-encoder
-invariant_of-encoder c =
-    record { few = rw (← length-buffers_of c.as_slice-slices.result.now, slices_are (goal.at.invariant_of-encoder c).After-as_slice-slices, length-map c.args.survivors.now.known.items bytes_or_none) c.requires.survivors.count }
+solved-requires-clause-inverse c =
+    let missing = lost (known_among c.args.survivors.now) in
+    (missing, subst (λ es. Inverts missing es c.args.found.now.inverse) (sym (exponents_are (goal.at.solved-requires-clause-inverse c).After-deref-5)) c.requires.inverse)
 
 pub solved-requires-clause-size : goal.solved-requires-clause-size
 solved-requires-clause-size c = λ j h.
@@ -42,9 +34,11 @@ solved-requires-clause-size c = λ j h.
 pub returns : goal.returns
 returns c =
     let at = (goal.at.returns c).After-deref-5 in
-    let made = answer c.args.survivors.now c.requires.survivors (lost (known_among c.args.survivors.now)) (recovered_of c.args.found.now.kept.items) (rows_of c.args.found.now.inverse) (lists_of c.in_ok-buffers.buffers.items)
-    (lost_are c.args.survivors.now.slice c.args.survivors.now.known.items) c.requires.kept c.requires.inverse.is_inverse c.requires.enough
+    let missing = lost (known_among c.args.survivors.now) in
+    let found = c.args.found.now in
+    let made = answer c.args.survivors.now c.requires.survivors missing (recovered_of found.kept.items) (lists_of c.in_ok-buffers.buffers.items)
+    (lost_are c.args.survivors.now.slice c.args.survivors.now.known.items) c.requires.kept (square missing (exponents_of found.kept.items) found.inverse c.requires.inverse) c.requires.enough
     (subst AreByteLists (slices_are (goal.at.returns c).After-as_slice-slices) c.in_ok-buffers.ensures.slices)
     (subst AreByteLists (recovery_are at) c.in_ok-buffers.ensures.recovery)
-    (rw (recovery_are at, slices_are (goal.at.returns c).After-as_slice-slices, exponents_are at) at c.in_ok-buffers.ensures.solved) (rw c.deref-6.ensures.value at c.fit_lists.ensures) in
+    ((rw (recovery_are at, slices_are (goal.at.returns c).After-as_slice-slices, exponents_are at) at c.in_ok-buffers.ensures.solved) missing c.requires.inverse) (rw c.deref-6.ensures.value at c.fit_lists.ensures) in
     record { rebuilt = made.0; count = sym (length-lists_of c.in_ok-buffers.buffers.items) ∙ made.1 }

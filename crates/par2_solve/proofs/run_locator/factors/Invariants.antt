@@ -1,4 +1,4 @@
-use Rattle.par2_solve.specs.Solvers.{AreFactors}
+use Rattle.par2_solve.specs.Inverses.{AreFactors}
 use Rattle.par2_solve.proofs.run_locator.factors.Given as goal
 
 abbrev pub invariant-loop-j : goal.invariant-loop-j

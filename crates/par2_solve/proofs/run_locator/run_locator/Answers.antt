@@ -1,6 +1,5 @@
 use Rattle.par2_solve.proofs.Common.{◌≡◌, ◌<◌, ◌≤◌, ◌∙◌, ℕ, List, sym, ap, subst, arith, length, drop, map, length-map, constant, coefficients, with_roots, length-with_roots, IsInverseMatrix, range_with_len}
-use Rattle.par2_solve.specs.Solvers.{AreFactors}
-use Rattle.par2_solve.specs.Located.{quotient_rows}
+use Rattle.par2_solve.specs.Inverses.{AreFactors, quotient_rows}
 use Rattle.par2_solve.proofs.RunInverses.{first_powers, at_itself}
 use Rattle.par2_solve.proofs.Locating.{located_inverse, located_wide}
 use Rattle.par2_solve.proofs.Runs.{slices_of}
@@ -62,5 +61,5 @@ returns c =
           (subst (λ (xs : List ℕ). IsInverseMatrix lost run (quotient_rows (drop 1 roots) xs locator.factors.items)) (sym points)
           (subst (λ (xs : List ℕ). IsInverseMatrix lost run (quotient_rows (drop 1 roots) constants xs)) (sym c.in_ok-locator.ensures.factors)
           (located_inverse lost first factors (slices_of c.args.lost.now) given)));
-      takes = ap (λ (xs : List ℕ). length xs) sequence ∙ located_wide lost;
+      wide = ap (λ (xs : List ℕ). length xs) sequence ∙ located_wide lost;
     }

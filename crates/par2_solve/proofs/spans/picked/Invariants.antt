@@ -1,5 +1,5 @@
 use Rattle.par2_solve.proofs.Common.{◌≡◌, take, lists_of}
-use Rattle.par2_solve.specs.Spans.{picked}
+use Rattle.par2_solve.specs.BufferContents.{picked}
 use Rattle.par2_solve.proofs.spans.picked.Given as goal
 
 abbrev pub invariant-loop-j : goal.invariant-loop-j

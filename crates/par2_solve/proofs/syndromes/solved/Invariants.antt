@@ -1,10 +1,10 @@
-use Rattle.par2_solve.proofs.Common.{◌≡◌, ◌≤◌, ◌-◌, ◌%◌, lists_of, AreSolved, buffers_of}
-use Rattle.par2_solve.specs.Solvers.{rows_of}
+use Rattle.par2_solve.proofs.Common.{◌≡◌, ◌≤◌, ◌-◌, ◌%◌, lists_of, syndrome, buffers_of}
+use Rattle.par2_solve.specs.Inverses.{AreSolvedBy}
 use Rattle.par2_solve.proofs.syndromes.solved.Given as goal
 
 abbrev pub invariant-loop-from : goal.invariant-loop-from
 invariant-loop-from l = record {
-  solved : AreSolved l.from (rows_of l.inverse) l.kept.exponents.now (buffers_of l.encoder.slices.now) (buffers_of l.kept.slices.now) (lists_of l.buffers.items);
+  solved : AreSolvedBy l.inverse l.from l.kept.exponents.now (syndrome l.kept.exponents.now (buffers_of l.encoder.slices.now) (buffers_of l.kept.slices.now)) (lists_of l.buffers.items);
   even : l.from % 2 ≡ 0;
   within : l.from ≤ l.size.bytes;
 }

@@ -1,10 +1,7 @@
-use Rattle.par2_solve.proofs.Common.{◌∙◌, ap, sym, arith, length, lists_of, products, buffers_of}
+use Rattle.par2_solve.proofs.Common.{sym, arith, length, lists_of, products, buffers_of}
 use Rattle.par2_solve.proofs.AdditionLaws.{products_are, next_columns, all_columns_added}
 use Rattle.par2_solve.proofs.Combinations.{length-buffers_of}
 use Rattle.par2_solve.proofs.encoder.Encoder.add_as_sums.Goals as goal
-
-pub add_columns-requires-clause-rows : goal.add_columns-requires-clause-rows
-add_columns-requires-clause-rows c = ap lists_of c.deref.ensures.value ∙ c.in_ok-rows.ensures
 
 pub loop-from-preserved : goal.loop-from-preserved
 loop-from-preserved c = record {

@@ -1,4 +1,4 @@
-use Rattle.par2_solve.proofs.Common.{◌≤◌, ◌-◌, ◌∙◌, sym, ap, arith, length, drop, length-take-le, length-drop, lists_of, still_within, group_within, length-group, buffers_of}
+use Rattle.par2_solve.proofs.Common.{◌≤◌, arith, length, lists_of, buffers_of}
 use Rattle.par2_solve.proofs.AdditionLaws.{adds_group}
 use Rattle.par2_solve.proofs.encoder.Encoder.add_by_groups.Goals.{After-group_end-to}
 use Rattle.par2_solve.proofs.encoder.Encoder.add_by_groups.Goals as goal
@@ -8,20 +8,6 @@ order c = omega (arith, c.group_end-to.ensures.beyond)
 
 fits : (c : After-group_end-to) → c.group_end-to.result ≤ length c.args.targets.now.outputs.places.now
 fits c = omega (arith, c.group_end-to.ensures.within, c.args.targets.now.count)
-
-pub invariant_of-group : goal.invariant_of-group
-invariant_of-group c =
-    let at = (goal.at.invariant_of-group c).After-group_end-to in
-    let left = length-drop c.loop-at.at c.args.targets.now.exponents.now in
-    let long = length-take-le (c.group_end-to.result - c.loop-at.at) (drop c.loop-at.at c.args.targets.now.exponents.now) (omega (arith, left, order at, c.group_end-to.ensures.within)) in
-    record { count = long ∙ sym (ap length c.part-outputs.ensures.places ∙ length-group c.loop-at.at c.group_end-to.result c.args.targets.now.outputs.places.now (order at) (fits at)) }
-
-pub add_group-requires-clause-room : goal.add_group-requires-clause-room
-add_group-requires-clause-room c =
-    let at = (goal.at.add_group-requires-clause-room c).After-group_end-to in
-    rw (c.part-outputs.ensures.places, c.part-outputs.ensures.words)
-    (group_within c.args.targets.now.outputs.words c.loop-at.at c.group_end-to.result c.args.targets.now.outputs.places.now (lists_of c.loop-at.buffers) (order at) (fits at)
-    (still_within c.args.targets.now.outputs.places.now c.args.targets.now.outputs.words c.args.targets.now.outputs.words _ (lists_of c.args.buffers.now) (lists_of c.loop-at.buffers) c.loop-at.invariant.added c.requires))
 
 pub loop-at-preserved : goal.loop-at-preserved
 loop-at-preserved c =

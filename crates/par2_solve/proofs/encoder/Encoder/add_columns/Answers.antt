@@ -1,4 +1,4 @@
-use Rattle.par2_solve.proofs.Common.{◌∙◌, ℕ, List, Vec, Global, sym, ap, arith, length, length-map, coefficients, range_with_len, lists_of, length-lists_of, buffers_of}
+use Rattle.par2_solve.proofs.Common.{◌∙◌, sym, ap, length, length-map, coefficients, range_with_len, lists_of, buffers_of}
 use Rattle.par2_solve.proofs.AdditionLaws.{sums_are}
 use Rattle.par2_solve.proofs.Combinations.{length-buffers_of, rows_long}
 use Rattle.par2_solve.proofs.Solving.{many_windows}
@@ -6,14 +6,6 @@ use Rattle.par2_solve.proofs.encoder.Encoder.add_columns.Goals as goal
 
 pub products_of-requires : goal.products_of-requires
 products_of-requires c = rw (many_windows _ _ c.args.self.now.slices.now c.deref.result.now (ap buffers_of c.deref.ensures.value ∙ c.in_ok-windows.ensures)) (rows_long _ c.args.targets.now.exponents.now _ c.requires.rows)
-
-pub add_sums-requires-clause-count : goal.add_sums-requires-clause-count
-add_sums-requires-clause-count c = ap (λ (sums : List (Vec ℕ Global)). length sums) c.deref-2.ensures.value ∙ sym (length-lists_of c.in_ok-sums.sums.items) ∙ c.in_ok-sums.ensures.count ∙ ap length c.requires.rows ∙ length-map c.args.targets.now.exponents.now (coefficients (range_with_len 0 (length c.args.self.now.slices.now))) ∙ c.args.targets.now.count
-
-pub add_sums-requires-clause-sizes : goal.add_sums-requires-clause-sizes
-add_sums-requires-clause-sizes c =
-    let count = c.in_ok-sums.ensures.count in
-    rw c.deref-2.ensures.value (λ r low. c.in_ok-sums.ensures.sizes r (let many = length-lists_of c.in_ok-sums.sums.items in omega (arith, low, many, count)))
 
 pub returns : goal.returns
 returns c =

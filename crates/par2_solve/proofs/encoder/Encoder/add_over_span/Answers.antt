@@ -1,5 +1,5 @@
 use Rattle.par2_solve.proofs.Common.{◌≡◌, ◌∙◌, rules, ap, length, get_or, lists_of, length-lists_of, buffers_of, with_items_is, arith}
-use Rattle.par2_solve.specs.Spans.{picked}
+use Rattle.par2_solve.specs.BufferContents.{picked}
 use Rattle.par2_solve.proofs.SpanLaws.{picked_sizes, span_added}
 use Rattle.par2_solve.proofs.encoder.Encoder.add_over_span.Goals as goal
 use Rattle.par2_solve.proofs.encoder.Encoder.add_over_span.Goals.{In_ok-sums}

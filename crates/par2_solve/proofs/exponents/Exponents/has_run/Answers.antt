@@ -1,5 +1,5 @@
-use Rattle.par2_solve.proofs.Common.{rules, refl, sym, ◌∙◌, ◌-◌, ◌+◌, ◌≤◌, length, get_or, subst, drop, arith, take, false≢true, AreClose, IsStrictlyIncreasing}
-use Rattle.par2_solve.proofs.Runs.{close_run, no_run, one_less, part_is, part_rises}
+use Rattle.par2_solve.proofs.Common.{rules, refl, sym, ◌∙◌, ◌-◌, ◌+◌, ◌≤◌, length, get_or, subst, drop, arith, take, false≢true, AreClose}
+use Rattle.par2_solve.proofs.Runs.{close_run, no_run, one_less, part_is}
 use Rattle.par2_solve.proofs.exponents.Exponents.has_run.Goals as goal
 
 pub returns-then-are_close : goal.returns-then-are_close
@@ -31,11 +31,3 @@ returns-else-are_close c =
     no_run xs n (end + 1) c.args.self.now.rise (one_less xs n end c.loop-end.invariant (λ close.
     false≢true (sym c.if-are_close.false ∙ c.are_close.ensures.1 (subst (λ m. AreClose n (take m (drop (end - n) xs))) (sym (part_is end n c.loop-end.auto.end)) close))))
     (omega (arith, last))
-
-pub invariant_of-part : goal.invariant_of-part
-invariant_of-part c =
-    let xs = c.args.self.now.numbers.now in
-    let n = c.args.count in
-    let end = c.loop-end.end in
-    let within : n ≤ end = c.loop-end.auto.end in
-    record { rise = subst (λ m. IsStrictlyIncreasing (take m (drop (end - n) xs))) (sym (part_is end n within)) (part_rises xs (end - n) n c.args.self.now.rise (omega (arith, within, c.loop-end-test.true))) }

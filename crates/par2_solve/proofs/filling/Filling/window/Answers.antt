@@ -1,6 +1,6 @@
 use Rattle.par2_solve.proofs.Common.{rules, List, ℕ, Bor, [], YieldsList-from_map_by, map_from_collect, buffers_of}
 use Rattle.std.proofs.lemmas.Iterator.Adapters.{YieldsList-from_rev_slice}
-use Rattle.par2_solve.specs.Filling.{from_origin}
+use Rattle.par2_solve.specs.Inverses.{from_origin}
 use Rattle.par2_solve.proofs.filling.Filling.window.Goals as goal
 
 pub returns : goal.returns

@@ -1,5 +1,5 @@
 use Rattle.par2_solve.proofs.Common.{◌≡◌, filter, range_with_len}
-use Rattle.par2_solve.specs.Holes.{is_hole}
+use Rattle.par2_solve.specs.Inverses.{is_hole}
 use Rattle.par2_solve.proofs.holes.Window.holes.Given as goal
 
 abbrev pub invariant-loop-x : goal.invariant-loop-x
