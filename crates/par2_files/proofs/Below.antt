@@ -1,5 +1,5 @@
 -- The files of a folder before a name, which changes from the name on leave as they are, and their message.
-use Rattle.par2_files.proofs.Common.{◌≡◌, ℕ, zero, suc, ◌<◌, ◌≤◌, Bool, true, false, cond, List, ◌∷◌, ◌++◌, length, take, Option, Some, None, refl, sym, ap, ◌∙◌, arith, is_lt, is_eq, eq_by_cmp, ord_min, Ordering, Less, Equal, Greater, nat_list_cmp_total, entries, same_map, entries-from_sorted, get-from_sorted, get-retain_keys, get-insert, get-remove, where_key, find-where_key, is_sorted-where_key, cases_lt, File, Folder, behind_length, bytes_of, name_cmp, IsSortedByName, folder_of, file_at, IsFileAt, IsGapFor, AreFolderFiles, is_below, folder_below, fingerprint_input, first_name, IsFront, by_true, effect, Change, Write, Replace, Rename, Remove, flat_map-append}
+use Rattle.par2_files.proofs.Common.{◌≡◌, ℕ, zero, suc, ◌<◌, ◌≤◌, Bool, true, false, cond, List, ◌∷◌, ◌++◌, length, take, Option, Some, None, refl, sym, ap, ◌∙◌, arith, is_lt, is_eq, eq_by_cmp, ord_min, Ordering, Less, Equal, Greater, nat_list_cmp_total, entries, same_map, entries-from_sorted, get-from_sorted, get-retain_keys, get-insert, get-remove, where_key, find-where_key, is_sorted-where_key, cases_lt, File, Folder, behind_length, bytes_of, name_cmp, IsSortedByName, folder_of, file_at, IsFileAt, IsGapFor, AreFolderFiles, is_below, fingerprint_input, first_name, IsFront, by_true, effect, Change, Write, Replace, Rename, Remove, flat_map-append}
 use Rattle.std.specs.FinMap as map_of
 use Rattle.par2_files.proofs.SortedFiles.{same_names, rises, inverted, reversed_back}
 
@@ -70,7 +70,7 @@ not_after a b r e h = grind (arith, inverted)
 both_from : (name a b : List ℕ) → is_below name (ord_min name_cmp a b) ≡ false → (is_below name a ≡ false) × (is_below name b ≡ false)
 both_from name a b = grind (arith, not_before, not_after)
 
-get_below : (name : List ℕ) (folder : Folder) (q : List ℕ) → map_of.get (folder_below name folder) q ≡ cond (is_below name q) (map_of.get folder q) None
+get_below : (name : List ℕ) (folder : Folder) (q : List ℕ) → map_of.get (map_of.retain_keys folder (is_below name)) q ≡ cond (is_below name q) (map_of.get folder q) None
 get_below name folder q = get-retain_keys folder (is_below name) q (alike (is_below name) q)
 
 -- another value at a name that is not before `name` leaves the files before `name`
@@ -85,18 +85,18 @@ elsewhere name n q o g h = by_case (name_cmp q n) refl
         ap (λ t. cond t o None) off ∙ sym (ap (λ t. cond t g None) off)
 
 module _ (name n : List ℕ) (folder : Folder) (h : is_below name n ≡ false) where
-  put_from : (bytes : List ℕ) → folder_below name (map_of.insert folder n bytes) ≡ folder_below name folder
+  put_from : (bytes : List ℕ) → map_of.retain_keys (map_of.insert folder n bytes) (is_below name) ≡ map_of.retain_keys folder (is_below name)
   put_from bytes = same_map nat_list_cmp_total same_names _ _ (λ q.
       get_below name _ q ∙ ap (λ o. cond (is_below name q) o None) (get-insert nat_list_cmp_total folder n bytes q)
       ∙ elsewhere name n q (Some bytes) (map_of.get folder q) h ∙ sym (get_below name folder q))
 
-  gone_from : folder_below name (map_of.remove folder n) ≡ folder_below name folder
+  gone_from : map_of.retain_keys (map_of.remove folder n) (is_below name) ≡ map_of.retain_keys folder (is_below name)
   gone_from = same_map nat_list_cmp_total same_names _ _ (λ q.
       get_below name _ q ∙ ap (λ o. cond (is_below name q) o None) (get-remove nat_list_cmp_total folder n q)
       ∙ elsewhere name n q None (map_of.get folder q) h ∙ sym (get_below name folder q))
 
 -- a change from the name on leaves the files before it
-pub effect_below : (name : List ℕ) (folder : Folder) (change : Change) → is_below name (first_name change) ≡ false → folder_below name (effect folder change) ≡ folder_below name folder
+pub effect_below : (name : List ℕ) (folder : Folder) (change : Change) → is_below name (first_name change) ≡ false → map_of.retain_keys (effect folder change) (is_below name) ≡ map_of.retain_keys folder (is_below name)
 unfolding effect
 effect_below name folder (Write n bytes) h = put_from name n folder h bytes
 effect_below name folder (Replace n bytes) h = put_from name n folder h bytes

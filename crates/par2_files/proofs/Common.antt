@@ -22,13 +22,10 @@ pub use Rattle.par2_md5_lanes.specs.Messages.{HasAbsorbed, message_of}
 pub use Rattle.par2_md5_lanes.specs.Buffers.{buffers_of}
 pub use Rattle.par2_md5_lanes.specs.declared.midstate.Midstate.{Midstate}
 pub use Rattle.par2_md5_lanes.specs.declared.pending.Pending.{Pending}
-pub use Rattle.par2_files.specs.Below.{IsFront, fingerprint_input, first_name, folder_below, is_below}
-pub use Rattle.par2_files.specs.Splits.{IsFurther, comes_before, is_before, new_group, group_buffers, bytes_before, touches}
+pub use Rattle.par2_files.specs.Splits.{AbsorbsTo, AreTo, HaveAbsorbed, IsFront, IsFurther, ReachEach, bytes_before, bytes_where, comes_before, fingerprint_input, first_name, group_buffers, is_before, is_below, new_group, touches}
 unfoldable pub use Rattle.par2_files.specs.Splits.{later_buffers}
 pub use Rattle.par2_files.specs.Checkpoints.{AreBehind, AreCheckpointsOf, IsCheckpointOf}
-pub use Rattle.par2_files.specs.AbsorbedStates.{AreTo, HaveAbsorbed, ReachEach, AbsorbsTo}
-pub use Rattle.par2_files.specs.Snapshots.{file_of, files_in, folder_in}
-pub use Rattle.par2_files.specs.Sorting.{AreFilesOf, IsFileAt, IsFile, IsGapFor, IsSearched, AreFolderFiles, IsSortedByName, file_at, folder_of, name_cmp}
+pub use Rattle.par2_files.specs.Sorting.{AreFilesOf, AreFolderFiles, IsFile, IsFileAt, IsGapFor, IsSearched, IsSortedByName, file_at, file_of, files_in, folder_in, folder_of, name_cmp}
 pub use Rattle.par2_files.specs.ChangeViews.{change_of}
 pub use Rattle.par2_files.specs.declared.snapshot.Split.{Split}
 pub use Rattle.par2_files.specs.declared.snapshot.Split.TheVariants.{At, Beginning, End}

@@ -1,5 +1,5 @@
 -- Steps of `fingerprint_with_checkpoints`.
-use Rattle.par2_files.proofs.Common.{◌≡◌, ◌⊎◌, false, arith, ℕ, ◌-◌, ◌<◌, ◌≤◌, List, [], ◌∷◌, ◌++◌, length, take, drop, get_or, sym, ap, subst, ◌∙◌, entries, false≢true, All-push, HasAbsorbed, message_of, AbsorbsTo, Midstate, Pending, Folder, fingerprint_input, folder_below, comes_before, AreCheckpointsOf, IsCheckpointOf, Split, Beginning, common_steps}
+use Rattle.par2_files.proofs.Common.{◌≡◌, ◌⊎◌, false, arith, ℕ, ◌-◌, ◌<◌, ◌≤◌, List, [], ◌∷◌, ◌++◌, length, take, drop, get_or, sym, ap, subst, ◌∙◌, false≢true, All-push, HasAbsorbed, message_of, AbsorbsTo, Midstate, Pending, Folder, bytes_where, is_below, comes_before, AreCheckpointsOf, IsCheckpointOf, Split, Beginning, common_steps}
 use Rattle.par2_files.specs.declared.checkpoints.Checkpoint.{Checkpoint}
 use Rattle.par2_files.specs.declared.checkpoints.Checkpoints.{Checkpoints}
 use Rattle.par2_files.proofs.Splits.{taken_on}
@@ -20,9 +20,9 @@ with_mark folder old new checkpoint pushed are is = λ i none lt.
     subst (λ l. IsCheckpointOf folder (get_or l i none)) (sym pushed) (All-push (IsCheckpointOf folder) old.list.items checkpoint are is i none (subst (λ l. i < length l) pushed lt))
 
 -- the state before a name is a checkpoint there
-pub is_mark : (name copy : List ℕ) (folder : Folder) (state : Midstate) → copy ≡ name → HasAbsorbed state (fingerprint_input (entries (folder_below name folder)))
+pub is_mark : (name copy : List ℕ) (folder : Folder) (state : Midstate) → copy ≡ name → HasAbsorbed state (bytes_where (is_below name) folder)
     → IsCheckpointOf folder (record { name = copy; state = state })
-is_mark name copy folder state copied held = subst (λ n. HasAbsorbed state (fingerprint_input (entries (folder_below n folder)))) (sym copied) held
+is_mark name copy folder state copied held = subst (λ n. HasAbsorbed state (bytes_where (is_below n) folder)) (sym copied) held
 
 -- after one was added, there is one
 pub some_pushed : (old : List Checkpoint) (checkpoint : Checkpoint) → 0 < length (old ++ checkpoint ∷ [])

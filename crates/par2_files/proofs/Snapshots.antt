@@ -1,5 +1,5 @@
 -- A snapshot's files, through searches and edits.
-use Rattle.par2_files.proofs.Common.{AreFilesOf, IsSearched, ◌≡◌, ℕ, suc, ◌<◌, false, List, [], ◌∷◌, length, map, get_or, set, Some, None, is_some, Result, Ok, Err, IfOk, IfErr, IsTrue, sym, ap, subst, ◌∙◌, arith, insert, remove, IsSearchInRange, IsBinarySearchResult, Ordering, length-map, get_or-map, map-set, File, Folder, has, bytes_of, name_cmp, folder_of, file_at, IsFileAt, IsGapFor, IsFile, AreFolderFiles, BorrowedFile, file_of, common_steps}
+use Rattle.par2_files.proofs.Common.{AreFilesOf, IsSearched, ◌≡◌, ℕ, suc, ◌<◌, false, List, [], ◌∷◌, length, map, get_or, set, None, is_some, Result, Ok, Err, IsTrue, sym, ap, subst, ◌∙◌, arith, insert, remove, IsSearchInRange, IsBinarySearchResult, Ordering, length-map, get_or-map, map-set, File, Folder, has, bytes_of, name_cmp, folder_of, IsFileAt, IsGapFor, IsFile, AreFolderFiles, BorrowedFile, file_of, common_steps}
 use Rattle.std.specs.FinMap as map_of
 use Rattle.par2_files.proofs.SortedFiles.{searched_folder, inserted, exchanged, removed, bytes_at}
 

@@ -1,5 +1,5 @@
 -- Files sorted by their names: what a search finds in them, and what an edit at a position does to their folder.
-use Rattle.par2_files.proofs.Common.{AreFilesOf, IsSearched, ◌≡◌, ℕ, zero, suc, ◌+◌, ◌<◌, ◌≤◌, Bool, true, false, cond, not, List, [], ◌∷◌, ◌++◌, length, take, drop, get_or, set, is_some, Option, Some, None, Result, Ok, Err, IfOk, IfErr, IsTrue, T, refl, sym, ap, subst, ◌∙◌, arith, insert, remove, AllByRecursion, IsSearchInRange, IsBinarySearchResult, IsNonDecreasingBy, ordering_index, ordering_reverse, eq_by_cmp, is_lt, is_eq, Ordering, Less, Equal, Greater, and_parts, nat_list_cmp_total, entries, is_sorted, find, put, IsAntisymmetric, slice_cmp-IsAntisymmetric, nat_cmp-IsAntisymmetric, same_entries_map, same_map, entries_sorted, entries-from_sorted, get-from_sorted, entries-insert, get-remove, get-empty, where_key, find-where_key, is_sorted-where_key, length-map, get_or-map, length-take-le, get_or-take, take_all, drop_all, take_more, get_or_default, All-from_recursion, recursion_from_All, All-set, File, Folder, IsFolder, has, names, name_cmp, IsSortedByName, folder_of, file_at, IsFileAt, IsGapFor, IsFile, AreFolderFiles, by_true, is_true, cond-not, common_steps}
+use Rattle.par2_files.proofs.Common.{AreFilesOf, IsSearched, ◌≡◌, ℕ, zero, suc, ◌+◌, ◌<◌, ◌≤◌, Bool, true, false, cond, not, List, [], ◌∷◌, ◌++◌, length, take, drop, get_or, set, is_some, Option, Some, None, Result, Ok, Err, IsTrue, T, refl, sym, ap, subst, ◌∙◌, arith, insert, remove, AllByRecursion, IsSearchInRange, IsBinarySearchResult, IsNonDecreasingBy, ordering_index, ordering_reverse, eq_by_cmp, is_lt, is_eq, Ordering, Less, Equal, Greater, and_parts, nat_list_cmp_total, entries, is_sorted, find, put, IsAntisymmetric, slice_cmp-IsAntisymmetric, nat_cmp-IsAntisymmetric, same_entries_map, same_map, entries_sorted, entries-from_sorted, get-from_sorted, entries-insert, get-remove, get-empty, where_key, find-where_key, is_sorted-where_key, length-map, get_or-map, length-take-le, get_or-take, take_all, drop_all, take_more, get_or_default, All-from_recursion, recursion_from_All, All-set, File, Folder, IsFolder, has, names, name_cmp, IsSortedByName, folder_of, file_at, IsFileAt, IsGapFor, IsFile, AreFolderFiles, by_true, is_true, cond-not, common_steps}
 use Rattle.std.specs.Cmp.{tied_itself, alike_right, eq_by_cmp_equiv}
 use Rattle.std.specs.FinMap as map_of
 use Rattle.std.proofs.lemmas.List.Sorted.{searchable_from_sorted}

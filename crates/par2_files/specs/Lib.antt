@@ -1,9 +1,5 @@
 pub mod Sorting
 pub mod ChangeViews
-pub mod Below
 pub mod Lending
-pub mod Snapshots
 pub mod Splits
-pub mod AbsorbedStates
 pub mod Checkpoints
-pub mod Fingerprinting

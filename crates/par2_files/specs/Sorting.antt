@@ -1,5 +1,5 @@
--- A folder as a vector of files, sorted by the bytes of their names.
-use Rattle.std.specs.Prelude.{◌≡◌, ℕ, ◌<◌, ◌≤◌, ◌^◌, List, [], length, slice_index_or, IsTrue, Some, None, Result, IfOk, IfErr}
+-- A folder as a vector of files, sorted by the bytes of their names, and a snapshot, which borrows such files.
+use Rattle.std.specs.Prelude.{◌≡◌, ℕ, ◌<◌, ◌≤◌, ◌^◌, List, [], length, map, slice_index_or, IsTrue, Some, None, Result, IfOk, IfErr}
 use Rattle.std.specs.FinMap as map_of
 use Rattle.std.specs.FinMap.{from_sorted, is_sorted}
 use Rattle.std.specs.List.{AllByRecursion}
@@ -9,6 +9,8 @@ use Rattle.std.specs.declared.cmp.Ordering.TheVariants.{Less, Greater}
 use Rattle.std.specs.Cmp.Lexicographic.{slice_cmp}
 use Rattle.par2_spec.specs.Folders.{Folder, File}
 use Rattle.par2_spec.specs.Names.{is_name}
+use Rattle.par2_files.specs.declared.snapshot.BorrowedFile.{BorrowedFile}
+use Rattle.par2_files.specs.declared.snapshot.Snapshot.{Snapshot}
 
 -- names compared byte by byte
 abbrev pub name_cmp : List ℕ → List ℕ → Ordering
@@ -57,3 +59,15 @@ pub record AreFolderFiles (files : List File) : Type 0 where
 pub record AreFilesOf (files : List File) (whole : Folder) : Type 0 where
   pub kept : AreFolderFiles files
   pub folder : folder_of files ≡ whole
+
+-- a borrowed file as a file of the definitions
+abbrev pub file_of : BorrowedFile → File
+file_of file = (file.name.now, file.bytes.now)
+
+-- the snapshot's files, in order
+abbrev pub files_in : Snapshot → List File
+files_in snapshot = map file_of snapshot.files.items
+
+-- the snapshot as a folder
+abbrev pub folder_in : Snapshot → Folder
+folder_in snapshot = folder_of (files_in snapshot)

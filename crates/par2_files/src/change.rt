@@ -70,7 +70,7 @@ pub enum Change {
 impl Change {
     ghost use Rattle.std.specs.Prelude.{◌≡◌, IfOk};
     ghost use Rattle.par2_files.specs.ChangeViews.{change_of};
-    ghost use Rattle.par2_files.specs.Below.{first_name};
+    ghost use Rattle.par2_files.specs.Splits.{first_name};
 
     // A copy of the change and of the bytes that it owns.
     pub(crate) fn copy_of(alloc: Global, change: &Change) -> Result<Change>
@@ -96,10 +96,10 @@ impl Change {
         ensures { result ≡ first_name (change_of self.now) }
     {
         match self {
-            Change::Write(name, _) => name.copied(),
-            Change::Replace(name, _) => name.copied(),
             Change::Rename(from, to) => min(from.copied(), to.copied()),
-            Change::Remove(name) => name.copied(),
+            Change::Write(name, _) | Change::Replace(name, _) | Change::Remove(name) => {
+                name.copied()
+            }
         }
     }
 }

@@ -5,16 +5,13 @@ ghost use Rattle.std.specs.Prelude.{◌<◌, ◌∷◌, [], length, map, OnOk, I
 ghost use Rattle.par2_md5_lanes.specs.Messages.{HasAbsorbed};
 ghost use Rattle.par2_spec.specs.Folders as defined;
 ghost use Rattle.par2_spec.specs.Folders.{fingerprint};
-ghost use Rattle.par2_files.specs.Splits.{IsFurther, group_buffers, bytes_before};
-ghost use Rattle.par2_files.specs.Checkpoints.{AreBehind, AreCheckpointsOf, HasCheckpoint};
-ghost use Rattle.par2_files.specs.AbsorbedStates.{HaveAbsorbed};
+ghost use Rattle.par2_files.specs.Splits.{HaveAbsorbed, IsFurther, bytes_before, group_buffers};
+ghost use Rattle.par2_files.specs.Checkpoints.{AreBehind, AreCheckpointsOf, HasCheckpoint, IsAt};
 ghost use Rattle.par2_files.specs.ChangeViews.{change_of};
 ghost use Rattle.par2_files.specs.declared.snapshot.Split.TheVariants.{At, End};
 ghost use Rattle.md5.specs.Md5.{md5};
 ghost use Rattle.par2_md5_lanes.specs.Buffers.{buffers_of};
-ghost use Rattle.par2_files.specs.Snapshots.{files_in, folder_in};
-ghost use Rattle.par2_files.specs.Sorting.{AreFolderFiles};
-ghost use Rattle.par2_files.specs.Fingerprinting.{IsAt};
+ghost use Rattle.par2_files.specs.Sorting.{AreFolderFiles, files_in, folder_in};
 
 use crate::snapshot::{Snapshot, Split, is_further, pending_between, touches};
 use crate::walk::{Absorbing, digests_of, pending_of_bytes, states_with};
@@ -140,13 +137,11 @@ fn checkpoint_names(alloc: Global, snapshot: &Snapshot) -> Result<Vec<Name>>
 // The total number of bytes borrowed by the parts, saturating: how many bytes of the buffer `advance_to` absorbs beside
 // them.
 fn bytes_lent(parts: &[Part]) -> usize {
-    let mut count: usize = 0;
-    for part in parts {
-        if let Part::Bytes(bytes) = part {
-            count = count.saturating_add(bytes.len());
-        }
-    }
-    count
+    let lent = parts.iter().map(|part| match part {
+        Part::Bytes(bytes) => bytes.len(),
+        _ => 0,
+    });
+    lent.fold(0, usize::saturating_add)
 }
 
 // Absorbs the files from the split `from` to the split `to`, and in a second lane as many bytes of the buffer, as far
@@ -262,7 +257,7 @@ pub fn checkpoint_at(
     let snapshot = folder.snapshot()?;
     let (split, state) = from.before(name);
     let mut absorbing = Absorbing::new(alloc);
-    absorbing.push_between(alloc, state, &snapshot, split, Split::At(name))?;
+    absorbing.push(pending_between(alloc, state, &snapshot, split, Split::At(name))?)?;
     let states = states_with(alloc, absorbing, beside)?;
     let beside = digests_of(alloc, &states[1..])?;
     let mut checkpoints = Checkpoints::none(alloc);

@@ -45,8 +45,7 @@ impl Folder {
     ghost use Rattle.par2_spec.specs.Folders.{bytes_of, has, names, fingerprint, IsFolder};
     ghost use Rattle.par2_spec.specs.Changes.{Rename, change_refusal, state_after, inverse, takes_all, state_after_all, way_back};
     ghost use Rattle.par2_files.specs.ChangeViews.{change_of};
-    ghost use Rattle.par2_files.specs.Sorting.{AreFilesOf};
-    ghost use Rattle.par2_files.specs.Snapshots.{files_in};
+    ghost use Rattle.par2_files.specs.Sorting.{AreFilesOf, files_in};
 
     /// The empty folder. It has no vacant places.
     #[tactic(auto, using(crate::proofs::SortedFiles::no_files))]
@@ -60,6 +59,7 @@ impl Folder {
     }
 
     /// The number of files.
+    #[tactic(auto, using(crate::proofs::SortedFiles::count_of))]
     pub fn len(&self) -> usize
         ensures count { result ≡ length (names self.now.files) }
         ensures fits { result < 2 ^ 63 }
@@ -201,10 +201,10 @@ impl Folder {
             return Err(ChangeFault::NameTaken);
         };
         let bytes = remove_at(&mut self.files, at, from);
-        match search(&self.files, to) {
-            Ok(_) => unreachable!(),
-            Err(place) => insert_at(&mut self.files, place, to.copied(), bytes),
-        }
+        let Err(place) = search(&self.files, to) else {
+            unreachable!()
+        };
+        insert_at(&mut self.files, place, to.copied(), bytes);
         mem::swap(from, to);
         Ok(())
     }
@@ -249,10 +249,9 @@ fn insert_at(files: &mut Vec<(Name, Bytes)>, at: usize, name: Name, bytes: Bytes
 {
     // For the prover: the name is valid, and the length of the bytes fits.
     let (_bytes, _slice) = (name.as_str(), bytes.as_slice());
-    match files.insert(at, (name, bytes)) {
-        Ok(()) => {}
-        Err(_) => unreachable!(),
-    }
+    let Ok(()) = files.insert(at, (name, bytes)) else {
+        unreachable!()
+    };
 }
 
 // Removes the file at a position, and returns its bytes.

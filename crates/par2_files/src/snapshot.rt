@@ -5,13 +5,10 @@ ghost use Rattle.std.specs.FinMap.{insert, remove};
 ghost use Rattle.std.specs.Prelude.{◌≡◌, map, IfOk, OnOk, IsTrue, ◌++◌, ◌∷◌, []};
 ghost use Rattle.par2_spec.specs.Folders.{has, bytes_of};
 ghost use Rattle.par2_spec.specs.Changes.{is_applicable, effect};
-ghost use Rattle.par2_files.specs.AbsorbedStates.{AbsorbsTo};
-ghost use Rattle.par2_files.specs.Sorting.{AreFilesOf, AreFolderFiles, IsSearched};
+ghost use Rattle.par2_files.specs.Splits.{AbsorbsTo, IsFront, IsFurther, bytes_before, comes_before, fingerprint_input, is_before, touches};
+ghost use Rattle.par2_files.specs.Sorting.{AreFilesOf, AreFolderFiles, IsSearched, file_of, files_in, folder_in};
 ghost use Rattle.par2_files.specs.ChangeViews.{change_of};
-ghost use Rattle.par2_files.specs.Below.{IsFront, fingerprint_input};
-ghost use Rattle.par2_files.specs.Snapshots.{file_of, files_in, folder_in};
 ghost use Rattle.par2_md5_lanes.specs.Messages.{HasAbsorbed, message_of};
-ghost use Rattle.par2_files.specs.Splits.{IsFurther, comes_before, is_before, bytes_before, touches};
 ghost use Rattle.par2_files.specs.declared.snapshot.Split.TheVariants.{At};
 
 use crate::{Bytes, Change, Name};
@@ -68,6 +65,7 @@ impl<'a> Snapshot<'a> {
     }
 
     // Removes the file, and returns its bytes.
+    #[tactic(auto, using(crate::proofs::Snapshots::not_absent))]
     fn take_out(&mut self, name: &Name) -> &'a Bytes
         requires kept { AreFolderFiles (files_in self.old) }
         requires there { IsTrue (has (folder_in self.old) name.now) }
@@ -89,8 +87,7 @@ impl<'a> Snapshot<'a> {
             OnOk result (AreFilesOf (files_in self.new) folder) }
     {
         match change {
-            Change::Write(name, bytes) => self.insert(name, bytes),
-            Change::Replace(name, bytes) => self.insert(name, bytes),
+            Change::Write(name, bytes) | Change::Replace(name, bytes) => self.insert(name, bytes),
             Change::Rename(from, to) => {
                 let bytes = self.take_out(from);
                 self.insert(to, bytes)

@@ -5,16 +5,14 @@
 //! split serves a whole group. `fingerprints` goes from split to split by `absorbing_before`, and takes the digests of
 //! all states at the end.
 ghost use Rattle.std.specs.Prelude.{◌≡◌, ◌≤◌, ◌++◌, ◌∷◌, [], ℕ, List, length, IfOk, OnOk, map, IsTrue};
-ghost use Rattle.par2_files.specs.AbsorbedStates.{AreTo, HaveAbsorbed, AbsorbsTo};
+ghost use Rattle.par2_files.specs.Splits.{AbsorbsTo, AreTo, HaveAbsorbed, IsFurther, buffers_by, bytes_before};
 ghost use Rattle.md5.specs.Md5.{md5};
 ghost use Rattle.par2_md5_lanes.specs.Messages.{HasAbsorbed};
 ghost use Rattle.par2_md5_lanes.specs.Buffers.{buffers_of};
 ghost use Rattle.par2_spec.specs.Changes.{are_applicable, folders_after, takes_all};
 ghost use Rattle.par2_spec.specs.Folders.{fingerprint};
 ghost use Rattle.par2_files.specs.ChangeViews.{change_of};
-ghost use Rattle.par2_files.specs.Splits.{buffers_by, bytes_before, IsFurther};
-ghost use Rattle.par2_files.specs.Snapshots.{files_in, folder_in};
-ghost use Rattle.par2_files.specs.Sorting.{AreFolderFiles};
+ghost use Rattle.par2_files.specs.Sorting.{AreFolderFiles, files_in, folder_in};
 ghost use Rattle.par2_files.specs.Checkpoints.{AreCheckpointsOf};
 ghost use Rattle.par2_files.specs.declared.snapshot.Split.TheVariants.{End};
 
@@ -72,27 +70,6 @@ impl<'a> Absorbing<'a> {
         Ok(self.pendings.push(pending)?)
     }
 
-    /// Adds the state at the split `from`, with the snapshot's files from there to the split `to` still to absorb.
-    pub(crate) fn push_between(
-        &mut self,
-        alloc: Global,
-        state: Midstate,
-        snapshot: &Snapshot<'a>,
-        from: Split<'_>,
-        to: Split<'_>,
-    ) -> Result<()>
-        requires few { length self.old.pendings.items ≤ 16 }
-        requires kept { AreFolderFiles (files_in snapshot.now) }
-        requires further { IsFurther from to }
-        ensures few { OnOk result (length self.new.pendings.items ≤ 16) }
-        ensures buffers { (buffers : List (List ℕ)) → AreTo self.old buffers
-            → HasAbsorbed state (bytes_before from.entry (folder_in snapshot.now))
-            → OnOk result
-            (AreTo self.new (buffers ++ bytes_before to.entry (folder_in snapshot.now) ∷ [])) }
-    {
-        self.push(pending_between(alloc, state, snapshot, from, to)?)
-    }
-
     /// The states once all parts are absorbed, in the order in which they were added.
     pub(crate) fn finish(mut self) -> Result<Vec<Midstate>>
         requires few { length self.pendings.items ≤ 16 }
@@ -134,7 +111,7 @@ fn absorbing_before<'a>(
 {
     let mut snapshot = folder.snapshot()?;
     let mut absorbing = Absorbing::new(alloc);
-    absorbing.push_between(alloc, states[0], &snapshot, from, to)?;
+    absorbing.push(pending_between(alloc, states[0], &snapshot, from, to)?)?;
     let mut place = 0;
     for change in changes {
         snapshot.apply(change)?;
@@ -142,7 +119,7 @@ fn absorbing_before<'a>(
             place += 1;
         }
         if touches(to, change) {
-            absorbing.push_between(alloc, states[place], &snapshot, from, to)?;
+            absorbing.push(pending_between(alloc, states[place], &snapshot, from, to)?)?;
         }
     }
     Ok(absorbing)
@@ -179,8 +156,7 @@ pub fn pending_of_bytes(alloc: Global, state: Midstate, bytes: &[u8]) -> Result<
     ensures { (m : List ℕ) → HasAbsorbed state m
         → IfOk result (λ pending. AbsorbsTo pending (m ++ bytes.now)) }
 {
-    let mut parts = Vec::with_capacity(alloc, 1)?;
-    parts.push(Part::Bytes(bytes))?;
+    let parts = vec![in alloc; Part::Bytes(bytes)]?;
     Ok(Pending { state, parts })
 }
 

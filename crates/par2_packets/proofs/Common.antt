@@ -13,7 +13,7 @@ pub use Rattle.std.specs.List.{AllAdjacentBelow, AllPairs, IsDistinct, range_wit
 pub use Rattle.std.specs.Prelude.{Err, Ok, OnOk, Result, flat_map, if◌then◌else◌, is_ok}
 pub use Rattle.std.specs.Str.{bytes_eq}
 pub use Rattle.md5.specs.Md5.{Holds, md5}
-pub use Rattle.par2_packets.specs.Cursors.{rest_of}
+pub use Rattle.par2_packets.specs.PacketViews.{rest_of}
 pub use Rattle.par2_packets.specs.Pieces.{ArePieces, changed_below, overwritten}
 pub use Rattle.par2_packets.specs.Recoveries.{AreDigested, digest_put, digested, recovery_packet}
 unfoldable pub use Rattle.par2_packets.specs.Recoveries.{undigested}

@@ -3,5 +3,3 @@ pub mod Bodies
 pub mod Pieces
 pub mod Recoveries
 pub mod DigestBatches
-pub mod Cursors
-pub mod Heads

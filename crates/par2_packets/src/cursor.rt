@@ -5,8 +5,7 @@ ghost use Rattle.std.specs.Prelude.{◌≡◌, ◌≤◌, ◌<◌, ◌+◌, ◌-
 ghost use Rattle.std.specs.Option.{ForSome};
 ghost use Rattle.md5.specs.Md5.{md5};
 ghost use Rattle.par2_spec.specs.Packets.{begins_with_packet, bytes_at};
-ghost use Rattle.par2_packets.specs.Heads.{IsHead};
-ghost use Rattle.par2_packets.specs.DigestBatches.{AreDigests, IsPacketPlace, IsBatchFrom};
+ghost use Rattle.par2_packets.specs.DigestBatches.{IsHead, AreDigests, IsPacketPlace, IsBatchFrom};
 
 use crate::bytes::u64_at;
 use md5::{Digest, Md5};
@@ -130,7 +129,7 @@ pub(crate) struct Cursor<'a> {
 }
 
 impl<'a> Cursor<'a> {
-    ghost use Rattle.par2_packets.specs.Cursors.{rest_of};
+    ghost use Rattle.par2_packets.specs.PacketViews.{rest_of};
 
     /// A cursor at the front of the bytes, without known digests.
     pub(crate) fn new(bytes: &'a [u8]) -> Cursor<'a>

@@ -4,8 +4,7 @@
 ghost use Rattle.std.specs.Prelude.{◌≡◌, ◌≤◌, [], ◌∷◌, length, MatchOption};
 ghost use Rattle.std.specs.Iterator.{YieldsFirstBy, item_count};
 ghost use Rattle.par2_spec.specs.Packets as packets;
-ghost use Rattle.par2_packets.specs.Cursors.{rest_of};
-ghost use Rattle.par2_packets.specs.PacketViews.{packet_view, remaining_packets};
+ghost use Rattle.par2_packets.specs.PacketViews.{packet_view, remaining_packets, rest_of};
 
 use crate::bytes::{block, u64_at};
 use crate::cursor::{Cursor, MAGIC, claimed_length};

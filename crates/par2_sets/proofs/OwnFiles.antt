@@ -48,13 +48,7 @@ others_are base ns = filter_twice (λ n. not (bytes_eq n base)) is_par_name (λ 
 
 -- in the order in which a PAR2 file is defined
 in_order : (par own some all : Bool) → ((par && (some && all)) && own) ≡ (par && own && some && all)
-in_order false own some all = refl
-in_order true false false all = refl
-in_order true false true false = refl
-in_order true false true true = refl
-in_order true true false all = refl
-in_order true true true false = refl
-in_order true true true true = refl
+in_order par own some all = grind arith
 
 -- without targets these are the set's PAR2 files
 pub par_files_are : (folder : Folder) (set : ParSet) → filter (λ n. not (is_among (target_names set) n)) (own_files folder set.id) ≡ par_files folder set

@@ -1,11 +1,10 @@
 -- Faults that are passed on.
-use Rattle.par2_sets.proofs.Common.{◌≡◌, ◌⊎◌, ◌<◌, ℕ, List, length, get_or, map, refl, sym, ap, ◌∙◌, None, Some, Option, Err, Result, ok_or, IsErrAnd, err_from_is_err_and, Fault, Memory, all_some, err_again, Returns}
+use Rattle.par2_sets.proofs.Common.{◌≡◌, ◌<◌, ℕ, List, length, get_or, map, refl, sym, ap, ◌∙◌, None, Some, Option, Err, Result, ok_or, IsErrAnd, err_from_is_err_and, Fault, all_some, err_again}
 use Rattle.par2_sets.proofs.Lists.{all_some_none}
 
 -- what `?` returns if a step ended in a fault
-pub passed_on : {X Y : Type 0} (view : X → Y) (r : Result X Fault) (whole : Result Y Fault) (fault : Fault)
-    → IsErrAnd r (λ y. y ≡ fault) → (fault ≡ Memory) ⊎ (whole ≡ Err fault) → Returns view r whole
-passed_on view r whole fault is h = err_again (λ x. Returns view x whole) r fault (err_from_is_err_and r is) h
+pub passed_on : {X : Type 0} (P : Result X Fault → Type 0) (r : Result X Fault) (fault : Fault) → IsErrAnd r (λ y. y ≡ fault) → P (Err fault) → P r
+passed_on P r fault is h = err_again P r fault (err_from_is_err_and r is) h
 
 -- the part that was missing
 missing_one : {A : Type 0} (o : Option A) (missing fault : Fault) → ok_or o missing ≡ Err fault → (o ≡ None) × (fault ≡ missing)

@@ -1,7 +1,7 @@
 -- Names that are taken, and the first number that is free.
-use Rattle.par2_sets.proofs.Common.{◌≡◌, ℕ, suc, ◌+◌, ◌-◌, ◌^◌, ◌<◌, ◌≤◌, length, List, [], ◌∷◌, ◌++◌, map, take, refl, sym, ap, ◌∙◌, ◌⊎◌, Bool, true, false, not, cond, ◌||◌, arith, inl, inr, IsTrue, Ok, Err, Result, find, IfErr, IsErrAnd, IsOk, nat_lt, unwrap_or, AllByRecursion, list_all, range_with_len, and_from, cases_lt, false_from_ne_true, false≢true, leb-true, lt-ltb, ltb-true, map_more, err_from_is_err_and, Fault, Memory, NameTooLong, Folder, File, IsFolder, files, names, is_among, is_name, numbered, taken_for, aside, IsSound, target_names, ParSet, name_is_short, err_again, where_none, long_aside}
+use Rattle.par2_sets.proofs.Common.{◌≡◌, ℕ, suc, ◌+◌, ◌-◌, ◌^◌, ◌<◌, ◌≤◌, length, List, [], ◌∷◌, ◌++◌, map, take, refl, sym, ap, ◌∙◌, Bool, true, false, not, cond, ◌||◌, arith, inl, inr, IsTrue, Ok, Err, Result, find, IfErr, IsOk, nat_lt, unwrap_or, AllByRecursion, list_all, range_with_len, and_from, cases_lt, false_from_ne_true, false≢true, leb-true, lt-ltb, ltb-true, map_more, NameTooLong, Folder, File, IsFolder, files, names, is_among, is_name, numbered, taken_for, aside, IsSound, target_names, ParSet, name_is_short, where_none, long_aside}
 use Rattle.std.proofs.lemmas.List.Folds.{list_all-append, list_any_more}
-use Rattle.std.specs.Prelude.{get_or, Option, Some, None}
+use Rattle.std.specs.Prelude.{get_or, Some, None}
 use Rattle.par2_spec.specs.Faults.{fault_where}
 use Rattle.par2_spec.proofs.AsideNames.{numbered_is_name}
 
@@ -51,11 +51,6 @@ module _ (taken : List (List ℕ)) (name : List ℕ) (most n : ℕ) (low : n ≤
       (let e : most - n ≡ most + 1 - (n + 1) = omega (arith, low) in e)
 
 -- ---- refusals
-
--- what `?` returns if a step ended in a fault
-pub passed_on : {X : Type 0} (r : Result X Fault) (fault : Fault) (long : Option Fault) → IsErrAnd r (λ y. y ≡ fault)
-    → (fault ≡ Memory) ⊎ (long ≡ Some fault) → IfErr r (λ f. (f ≡ Memory) ⊎ (long ≡ Some f))
-passed_on r fault long is h = err_again (λ x. IfErr x (λ f. (f ≡ Memory) ⊎ (long ≡ Some f))) r fault (err_from_is_err_and r is) h
 
 -- a name whose aside is too long
 pub too_long : (folder : Folder) (set : ParSet) (name : List ℕ) → 255 < length (aside folder set name) → long_aside folder set (name ∷ []) ≡ Some NameTooLong

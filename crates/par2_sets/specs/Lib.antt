@@ -1,5 +1,4 @@
 pub mod Firsts
 pub mod SetReading
-pub mod Slices
-pub mod Codes
+pub mod SetViews
 pub mod Asides

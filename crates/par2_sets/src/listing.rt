@@ -28,13 +28,8 @@ pub fn par_files(alloc: Global, set: &ParSet, own: &[Name]) -> Result<Vec<Name>>
         → Lists (repairs.par_files files set.now) result }
 {
     let targets = target_names(alloc, set)?;
-    let mut names = Vec::new(alloc);
-    for name in own {
-        if !targets.contains(name) {
-            names.push(name.copied())?;
-        }
-    }
-    Ok(names)
+    let removed = own.iter().filter(|name| !targets.contains(*name));
+    removed.map(|name| name.copied()).collect(alloc)
 }
 
 // A tree of the names of the set's targets. `HoldsOwned`: it has exactly these.
@@ -94,28 +89,6 @@ fn aside(
     unreachable!()
 }
 
-// The asides of these names, in order, with `targets` and `most` as `aside` takes them.
-fn asides_of(
-    alloc: Global,
-    folder: &Folder,
-    set: &ParSet,
-    targets: &BTreeSet<Name>,
-    most: usize,
-    names: &[Name],
-) -> Result<Vec<Name>, Fault>
-    requires targets { HoldsOwned targets.now (target_names set.now) }
-    requires most { most ≡ length (taken_for folder.now.files set.now) + 1 }
-    ensures refused { FailsFor (long_aside folder.now.files set.now names.now) result }
-    ensures short { IfOk result (λ _. long_aside folder.now.files set.now names.now ≡ None) }
-    ensures names { Lists (map (aside folder.now.files set.now) names.now) result }
-{
-    let mut asides = Vec::new(alloc);
-    for name in names {
-        asides.push(aside(alloc, folder, set, targets, most, name)?)?;
-    }
-    Ok(asides)
-}
-
 /// The asides of these names, in order: each is NAME.n with the least number n from 1 on that is neither in the folder
 /// nor a target's. It returns `NameTooLong` if one has more than 255 bytes. `AreFew`: the numbers fit in 64 bits.
 pub fn asides(
@@ -132,5 +105,9 @@ pub fn asides(
     let targets = target_names(alloc, set)?;
     // One number more than there are names to avoid.
     let most = folder.len() + set.targets().len() + 1;
-    asides_of(alloc, folder, set, &targets, most, names)
+    let mut asides = Vec::new(alloc);
+    for name in names {
+        asides.push(aside(alloc, folder, set, &targets, most, name)?)?;
+    }
+    Ok(asides)
 }

@@ -1,14 +1,13 @@
 //! The packets of a set in the files of a folder: `packets_of` collects them for `set_of`, which reads the set from
 //! them, and finds the files that a purge may remove.
 
-ghost use Rattle.std.specs.Prelude.{◌≡◌, ◌++◌, filter, map, not, IfOk, OnOk};
-ghost use Rattle.std.specs.Str.{bytes_eq};
+ghost use Rattle.std.specs.Prelude.{◌≡◌, ◌++◌, filter, map, IfOk, OnOk};
 ghost use Rattle.par2_spec.specs.Answers.{Lists};
 ghost use Rattle.par2_spec.specs.Folders.{names};
 ghost use Rattle.par2_spec.specs.Names.{is_par_name};
 ghost use Rattle.par2_spec.specs.Sets.{packets_with};
 ghost use Rattle.par2_packets.specs.PacketViews.{packet_view, remaining_packets};
-ghost use Rattle.par2_sets.specs.SetReading.{are_own, has_own, own_files, packets_in, set_packets};
+ghost use Rattle.par2_sets.specs.SetReading.{are_own, own_files, set_packets};
 
 use par2_files::{Folder, Name};
 use par2_packets::{Packet, Packets};
@@ -57,39 +56,8 @@ fn par_names(folder: &Folder) -> Result<Vec<Name>>
     Ok(names)
 }
 
-// The packets with the Recovery Set ID `id` in the base and in the files of these names, and which of these files have
-// no others. `in_bytes` keeps the MD5 of the longest packet from file to file, because the files repeat it.
-fn packets_among<'a>(
-    alloc: Global,
-    folder: &'a Folder,
-    base: &Name,
-    names: &[Name],
-    id: &[u8; 16],
-) -> Result<SetPackets<'a>>
-    ensures packets { let others = filter (λ name. not (bytes_eq name base.now)) names.now in
-        IfOk result (λ all. map packet_view all.packets.items
-        ≡ packets_in folder.now.files base.now others id.now) }
-    ensures own { let own = filter (has_own folder.now.files id.now) names.now in
-        IfOk result (λ all. all.own_files.items ≡ own) }
-{
-    let (mut packets, mut own_files) = (Vec::new(alloc), Vec::new(alloc));
-    let mut found = Packets::new(folder.bytes_of(base));
-    let base_is_own = add_packets(&mut packets, id, &mut found)?;
-    for name in names {
-        let is_own = if name == base {
-            base_is_own
-        } else {
-            found = found.in_bytes(folder.bytes_of(name));
-            add_packets(&mut packets, id, &mut found)?
-        };
-        if is_own {
-            own_files.push(name.copied())?;
-        }
-    }
-    Ok(SetPackets { packets, own_files })
-}
-
-// The packets with the Recovery Set ID `id` in the base and in every other `.par2` file.
+// The packets with the Recovery Set ID `id` in the base and in every other `.par2` file. `in_bytes` keeps the MD5 of the
+// longest packet from file to file, because the files repeat it.
 pub(crate) fn packets_of<'a>(
     alloc: Global,
     folder: &'a Folder,
@@ -102,5 +70,19 @@ pub(crate) fn packets_of<'a>(
         IfOk result (λ found. found.own_files.items ≡ own) }
 {
     let names = par_names(folder)?;
-    packets_among(alloc, folder, base, &names, id)
+    let (mut packets, mut own_files) = (Vec::new(alloc), Vec::new(alloc));
+    let mut found = Packets::new(folder.bytes_of(base));
+    let base_is_own = add_packets(&mut packets, id, &mut found)?;
+    for name in &names {
+        let is_own = if name == base {
+            base_is_own
+        } else {
+            found = found.in_bytes(folder.bytes_of(name));
+            add_packets(&mut packets, id, &mut found)?
+        };
+        if is_own {
+            own_files.push(name.copied())?;
+        }
+    }
+    Ok(SetPackets { packets, own_files })
 }

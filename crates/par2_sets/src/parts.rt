@@ -6,12 +6,10 @@ ghost use Rattle.par2_spec.specs.Sets.{main_of, description_of, pairs_of, recove
 ghost use Rattle.par2_packets.specs.PacketViews.{packet_view};
 ghost use Rattle.par2_sets.specs.SetReading.{Returns, descriptions_of, checksums_for};
 ghost use Rattle.par2_sets.specs.Firsts.{HasFirsts, HoldDescriptions, HoldChecksums};
-ghost use Rattle.std.specs.BTreeMap.{IsOrdered};
 ghost use Rattle.std.specs.FinMap.{entries};
 ghost use Rattle.std.specs.Iterator.{Drains, IsFinite};
 ghost use Rattle.std.specs.List.Sorted.{IsStrictlyIncreasing};
-ghost use Rattle.std.specs.Ordering.{nat_cmp};
-ghost use Rattle.par2_sets.specs.Slices.{set_exponents, set_recovery, usable};
+ghost use Rattle.par2_sets.specs.SetViews.{set_exponents, set_recovery, usable};
 ghost use Rattle.par2_spec.specs.Packets as spec;
 
 use md5::{Digest, Md5};
@@ -162,18 +160,6 @@ fn recovery_in<'a>(packet: &Packet<'a>, s: u64) -> Option<RecoveryView<'a>>
     fits.then_some(recovery)
 }
 
-// The entries of the map of recovery slices, in the order of the exponents.
-fn in_order<'a>(alloc: Global, slices: &BTreeMap<u32, &'a [u8]>) -> Result<Vec<(u32, &'a [u8])>>
-    ensures value { IfOk result (λ list. list.items ≡ slices.now.entries) }
-    ensures rising { IsOrdered nat_cmp slices.now }
-{
-    let mut list = Vec::with_capacity(alloc, slices.len())?;
-    for (exponent, bytes) in slices.iter() {
-        list.push((*exponent, *bytes))?;
-    }
-    Ok(list)
-}
-
 // For each exponent below 65,536 its first recovery slice of `s` bytes, in the order of the exponents.
 pub(crate) fn recovery_of<'a>(
     alloc: Global,
@@ -186,5 +172,5 @@ pub(crate) fn recovery_of<'a>(
 {
     let found = packets.iter().filter_map(|packet| recovery_in(packet, s));
     let slices = found.map(|recovery| (recovery.exponent(), recovery.bytes()));
-    in_order(alloc, &firsts(alloc, slices)?)
+    firsts(alloc, slices)?.into_iter().collect(alloc)
 }

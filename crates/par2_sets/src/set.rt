@@ -8,7 +8,7 @@ ghost use Rattle.std.specs.FinMap.{entries};
 ghost use Rattle.par2_spec.specs.Sets as sets;
 ghost use Rattle.par2_spec.specs.Sets.{IsSound};
 ghost use Rattle.par2_packets.specs.PacketViews.{packet_view};
-ghost use Rattle.par2_sets.specs.Slices.{set_recovery, set_exponents};
+ghost use Rattle.par2_sets.specs.SetViews.{set_recovery, set_exponents};
 ghost use Rattle.par2_sets.specs.SetReading.{Returns, own_files, set_from_packets};
 
 use crate::Target;
@@ -35,8 +35,8 @@ pub struct ParSet<'a> {
 
 impl<'a> Model for ParSet<'a> {
     ghost use Rattle.par2_spec.specs.Sets as sets;
-    ghost use Rattle.par2_sets.specs.Codes.{set_code};
-    ghost use Rattle.par2_sets.specs.Slices.{IsReadSet, set_view};
+    ghost use Rattle.par2_sets.specs.SetViews.{set_code};
+    ghost use Rattle.par2_sets.specs.SetViews.{IsReadSet, set_view};
 
     ghost Value = { sets.ParSet };
 

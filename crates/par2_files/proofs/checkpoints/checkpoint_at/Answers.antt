@@ -7,7 +7,7 @@ use Rattle.par2_files.proofs.checkpoints.checkpoint_at.Goals as goal
 held : (c : After-deref) → HaveAbsorbed c.in_ok-states.states.items (bytes_before (At c.args.name) (folder_in c.in_ok-snapshot.snapshot) ∷ buffers_of c.args.beside.now)
 held c =
     let before = subst (λ f. HasAbsorbed c.before-2.result.1 (bytes_before c.before-2.result.0 f)) (sym c.in_ok-snapshot.ensures.folder) (c.before-2.ensures.absorbed c.args.folder.now.files c.requires) in
-    c.in_ok-states.ensures _ (c.in_ok-push_between.ensures.buffers [] c.new-absorbing.ensures.buffers before)
+    c.in_ok-states.ensures _ (c.in_ok-push.ensures.buffers [] _ c.new-absorbing.ensures.buffers (c.in_ok-pending_between.ensures before))
 
 pub slice_bounds-digests_of-count : goal.slice_bounds-digests_of-count
 slice_bounds-digests_of-count c = omega (arith, as_many _ _ (held (goal.at.slice_bounds-digests_of-count c).After-deref), ap length c.deref.ensures.value)

@@ -1,5 +1,5 @@
 use Rattle.par2_files.proofs.Common.{◌≡◌, ◌⊎◌, ◌<◌, length, AreCheckpointsOf, folder_in, Beginning}
-use Rattle.par2_files.specs.Fingerprinting.{IsAt}
+use Rattle.par2_files.specs.Checkpoints.{IsAt}
 use Rattle.par2_files.proofs.checkpoints.checkpoints_at_names.Given as goal
 
 abbrev pub invariant-loop-name : goal.invariant-loop-name

@@ -1,11 +1,8 @@
-use Rattle.par2_files.proofs.Common.{◌<◌, length, ap, arith, subst, sym, ◌∙◌, append-nil, entries, take_all, md5, fingerprint, files_in, folder_in, AreCheckpointsOf}
+use Rattle.par2_files.proofs.Common.{◌<◌, length, ap, arith, subst, sym, ◌∙◌, append-nil, entries, take_all, md5, fingerprint, files_in, folder_in}
 use Rattle.par2_files.proofs.Splits.{taken_on}
 use Rattle.par2_files.proofs.SortedFiles.{files_of}
 use Rattle.par2_files.proofs.Walks.{fingerprint_is}
 use Rattle.par2_files.proofs.checkpoints.fingerprint_with_checkpoints.Goals as goal
-
-pub returns-clause-checkpoints : goal.returns-clause-checkpoints
-returns-clause-checkpoints c = subst (λ f. AreCheckpointsOf f c.checkpoints_at_names.new.checkpoints) c.in_ok-snapshot.ensures.folder c.in_ok-end.ensures.are_checkpoints
 
 pub returns-clause-some : goal.returns-clause-some
 returns-clause-some c = λ files.

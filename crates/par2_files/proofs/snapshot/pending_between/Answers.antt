@@ -1,4 +1,3 @@
-use Rattle.par2_files.proofs.Common.{arith, common_steps}
 use Rattle.par2_files.proofs.Splits.{between, no_less}
 use Rattle.par2_files.proofs.snapshot.pending_between.Goals as goal
 
@@ -10,6 +9,3 @@ returns c = λ held.
     let le = no_less items c.requires.kept c.args.from c.args.to c.count_before-start.result c.count_before-end.result front longer c.requires.further in
     let parts = rw c.deref-3.ensures.value at c.in_ok-parts.ensures in
     (_, (held, between items c.requires.kept c.args.from c.args.to c.count_before-start.result c.count_before-end.result _ front longer le parts))
-
-pub offset_bounds-deref-start : goal.offset_bounds-deref-start
-offset_bounds-deref-start c = grind (arith, common_steps)

@@ -1,6 +1,6 @@
-use Rattle.par2_files.proofs.Common.{◌≡◌, ◌+◌, ◌∙◌, Bool, true, false, [], ◌∷◌, IsTrue, ap, arith, cond, map, subst, sym, append-nil, common_steps, are_applicable, change_of, bytes_before, touches, group_buffers, AreTo, HaveAbsorbed, folder_in}
+use Rattle.par2_files.proofs.Common.{◌≡◌, ◌+◌, ◌∙◌, Bool, true, false, [], ◌∷◌, IsTrue, ap, cond, map, subst, sym, append-nil, are_applicable, change_of, bytes_before, touches, group_buffers, AreTo, HaveAbsorbed, folder_in}
 use Rattle.par2_files.proofs.Walks.{absorbed_here, arrived, goes_on, in_range, next_applicable, parents_then}
-use Rattle.par2_files.proofs.walk.absorbing_before.Goals.{After-touches-in-loop-change, then-touches, else-touches, then-touches-2+in_ok-push_between-2, else-touches-2}
+use Rattle.par2_files.proofs.walk.absorbing_before.Goals.{After-touches-in-loop-change, then-touches, else-touches, then-touches-2+in_ok-pending_between-2+in_ok-push-2, else-touches-2}
 use Rattle.par2_files.proofs.walk.absorbing_before.Goals as goal
 
 pub loop-change-init : goal.loop-change-init
@@ -12,11 +12,11 @@ loop-change-init c =
     let absorbed : HaveAbsorbed states (group_buffers c.args.from here changes) = subst (λ f. HaveAbsorbed states (group_buffers c.args.from f changes)) (sym folder) c.requires.absorbed in
     record {
       kept = c.in_ok-snapshot.ensures.kept;
-      few = c.in_ok-push_between.ensures.few;
+      few = c.in_ok-push.ensures.few;
       applicable = subst (λ f. IsTrue (are_applicable f changes)) (sym folder) c.requires.applicable;
       parents = absorbed;
       done = bytes_before c.args.to here ∷ [];
-      reached = c.in_ok-push_between.ensures.buffers [] c.new-absorbing.ensures.buffers (absorbed_here states 0 _ _ _ absorbed);
+      reached = c.in_ok-push.ensures.buffers [] _ c.new-absorbing.ensures.buffers (c.in_ok-pending_between.ensures (absorbed_here states 0 _ _ _ absorbed));
       whole = ap (λ f. group_buffers c.args.to f changes) folder;
     }
 
@@ -31,9 +31,6 @@ place c =
       | then-touches w ↦ w.place-is ∙ sym (ap at (sym c.touches.ensures ∙ w.if-touches.true))
       | else-touches w ↦ w.place-is ∙ sym (ap at (sym c.touches.ensures ∙ w.if-touches.false))
     ]
-
-pub overflow_add-place : goal.overflow_add-place
-overflow_add-place c = omega (arith, in_range c.args.states.now c.loop-change.place _ _ c.loop-change.invariant.parents)
 
 pub bounds-states-place : goal.bounds-states-place
 bounds-states-place c =
@@ -50,10 +47,10 @@ loop-change-preserved c =
     let parents = parents_then walk.invariant c.loop-change-test.true c.change-item.is place in
     let absorbed = absorbed_here c.args.states.now c.if-touches.place _ _ _ parents in
     elim c.if-touches-2.branch [
-      | then-touches-2+in_ok-push_between-2 w ↦
+      | then-touches-2+in_ok-pending_between-2+in_ok-push-2 w ↦
           let begun = sym c.touches-in-loop-change.ensures ∙ w.if-touches-2.true in
-          let reached = w.in_ok-push_between-2.ensures.buffers walk.invariant.done walk.invariant.reached (rw after absorbed) in
-          rw w.absorbing-is (goes_on walk.invariant c.loop-change-test.true c.change-item.is place next after c.in_ok-apply.ensures.kept w.push_between-then-touches-2.new.self w.in_ok-push_between-2.ensures.few true begun reached)
+          let reached = w.in_ok-push-2.ensures.buffers walk.invariant.done _ walk.invariant.reached (w.in_ok-pending_between-2.ensures (rw after absorbed)) in
+          rw w.absorbing-is (goes_on walk.invariant c.loop-change-test.true c.change-item.is place next after c.in_ok-apply.ensures.kept w.push-then-touches-2.new.self w.in_ok-push-2.ensures.few true begun reached)
       | else-touches-2 w ↦
           let begun = sym c.touches-in-loop-change.ensures ∙ w.if-touches-2.false in
           rw w.absorbing-is (goes_on walk.invariant c.loop-change-test.true c.change-item.is place next after c.in_ok-apply.ensures.kept walk.absorbing walk.invariant.few false begun (subst (AreTo walk.absorbing) (sym (append-nil walk.invariant.done)) walk.invariant.reached))
@@ -61,6 +58,3 @@ loop-change-preserved c =
 
 pub returns-clause-states : goal.returns-clause-states
 returns-clause-states c = arrived c.loop-change.invariant c.loop-change-test.false
-
-pub offset_bounds-states-place : goal.offset_bounds-states-place
-offset_bounds-states-place c = grind (arith, common_steps)

@@ -1,9 +1,6 @@
-use Rattle.par2_files.proofs.Common.{[], append-nil, arith, subst, sym, take_all, AreTo}
+use Rattle.par2_files.proofs.Common.{[], subst, AreTo}
 use Rattle.par2_files.proofs.Walks.{bytes_more}
 use Rattle.par2_files.proofs.walk.states_with.Goals as goal
-
-pub loop-bytes-init : goal.loop-bytes-init
-loop-bytes-init c = record { few = c.requires; buffers = λ before are. subst (AreTo c.args.absorbing) (sym (append-nil before)) are }
 
 pub loop-bytes-preserved : goal.loop-bytes-preserved
 loop-bytes-preserved c = record {
@@ -12,6 +9,3 @@ loop-bytes-preserved c = record {
       subst (AreTo c.push.new.self) (bytes_more before c.args.buffers.now c.loop-bytes.bytes-index _ c.loop-bytes-test.true)
       (c.in_ok-push.ensures.buffers _ _ (c.loop-bytes.invariant.buffers before are) (c.in_ok-pending_of_bytes.ensures [] c.new.ensures));
 }
-
-pub returns : goal.returns
-returns c = grind (arith, take_all)

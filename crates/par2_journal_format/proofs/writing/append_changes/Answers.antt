@@ -1,5 +1,5 @@
-use Rattle.par2_journal_format.proofs.Common.{◌≡◌, ◌<◌, ◌≤◌, length, get_or, ap, sym, ◌∙◌, arith, get_or-map, length-map, change_of, changes_in, IsChange, change_bytes}
-use Rattle.par2_journal_format.proofs.Many.{wrote_all, wrote_more}
+use Rattle.par2_journal_format.proofs.Common.{◌≡◌, ◌<◌, length, get_or, ap, sym, ◌∙◌, arith, get_or-map, length-map, change_of, changes_in, IsChange, change_bytes}
+use Rattle.par2_journal_format.proofs.Many.{wrote_more}
 use Rattle.par2_journal_format.proofs.writing.append_changes.Goals as goal
 
 pub loop-change-preserved : goal.loop-change-preserved
@@ -11,8 +11,3 @@ loop-change-preserved c =
     let lt : i < length (changes_in all) = omega (arith, c.loop-change-test.true, length-map all change_of) in
     let is : change_of item ≡ get_or (changes_in all) i (change_of item) = ap change_of c.change-item.is ∙ sym (get_or-map change_of all i item (change_of item) c.loop-change-test.true) in
     wrote_more (changes_in all) i IsChange change_bytes c.args.out.now.items c.loop-change.out.items c.append_change.new.out.items (change_of item) lt is c.loop-change.invariant appended.bytes appended.change
-
-pub returns-clause-bytes : goal.returns-clause-bytes
-returns-clause-bytes c =
-    let all : length (changes_in c.args.changes.now) ≤ c.loop-change.change-index = omega (arith, length-map c.args.changes.now change_of) in
-    wrote_all (changes_in c.args.changes.now) c.loop-change.change-index change_bytes c.args.out.now.items c.loop-change.out.items all c.loop-change.invariant.bytes

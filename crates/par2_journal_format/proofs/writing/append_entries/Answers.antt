@@ -1,5 +1,5 @@
-use Rattle.par2_journal_format.proofs.Common.{◌≤◌, ◌++◌, length, ap, subst, ◌∙◌, append_assoc, arith, flat_map, w64, to_le_bytes, IsEntry, change_bytes, entry_bytes}
-use Rattle.par2_journal_format.proofs.Many.{wrote_all, wrote_more}
+use Rattle.par2_journal_format.proofs.Common.{◌++◌, length, ap, subst, ◌∙◌, append_assoc, flat_map, w64, to_le_bytes, IsEntry, change_bytes, entry_bytes}
+use Rattle.par2_journal_format.proofs.Many.{wrote_more}
 use Rattle.par2_journal_format.proofs.writing.append_entries.Goals as goal
 
 pub loop-entry-preserved : goal.loop-entry-preserved
@@ -10,8 +10,3 @@ loop-entry-preserved c =
     let changes = c.in_ok-append_changes.ensures in
     let bytes = changes.bytes ∙ ap (λ cs. c.append_number.new.out.items ++ flat_map change_bytes cs) c.as_slice.ensures ∙ ap (λ o. o ++ flat_map change_bytes entry) number ∙ append_assoc out (to_le_bytes w64 (length entry)) (flat_map change_bytes entry) in
     wrote_more c.args.entries.now c.loop-entry.entry-index IsEntry entry_bytes c.args.out.now.items out c.append_changes.new.out.items entry c.loop-entry-test.true c.entry-item.is c.loop-entry.invariant bytes (subst IsEntry c.as_slice.ensures changes.changes)
-
-pub returns-clause-bytes : goal.returns-clause-bytes
-returns-clause-bytes c =
-    let all : length c.args.entries.now ≤ c.loop-entry.entry-index = omega arith in
-    wrote_all c.args.entries.now c.loop-entry.entry-index entry_bytes c.args.out.now.items c.loop-entry.out.items all c.loop-entry.invariant.bytes

@@ -1,10 +1,7 @@
-use Rattle.par2_packets.proofs.Common.{rules, ◌≡◌, ◌++◌, List, ℕ, map, sym, ap, ap₂, ◌∙◌, arith, flat_map, w32, to_le_bytes, length-map, take_all, common_steps, file_record_of}
+use Rattle.par2_packets.proofs.Common.{rules, ◌≡◌, ◌++◌, List, ℕ, map, sym, ap, ap₂, ◌∙◌, arith, flat_map, w32, to_le_bytes, length-map, take_all, file_record_of}
 use Rattle.par2_packets.specs.declared.record.FileRecord.{FileRecord}
 use Rattle.par2_spec.specs.Volumes as volumes
 use Rattle.par2_packets.proofs.append.append_main.Goals as goal
-
-pub loop-file-preserved : goal.loop-file-preserved
-loop-file-preserved c = grind (arith, common_steps)
 
 pub returns-clause-ok : goal.returns-clause-ok
 returns-clause-ok c =

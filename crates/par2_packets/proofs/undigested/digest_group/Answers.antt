@@ -1,7 +1,6 @@
-use Rattle.par2_packets.proofs.Common.{◌≡◌, ◌∙◌, ◌+◌, ◌*◌, ◌<◌, ℕ, List, [], length, refl, ap, subst, arith, rules, get_or, get_or_default, length-map-range_with_len, get_or-map-range_with_len, md5, bytes_at, AreDigested}
+use Rattle.par2_packets.proofs.Common.{◌≡◌, ◌∙◌, ◌+◌, ◌*◌, ◌<◌, ℕ, List, [], length, refl, ap, arith, rules, get_or, get_or_default, length-map-range_with_len, get_or-map-range_with_len, md5, bytes_at}
 use Rattle.std.specs.Prelude.{drop}
-use Rattle.par2_packets.proofs.Pieces.{room_for}
-use Rattle.par2_packets.proofs.LaterDigests.{none_digested, digested_next}
+use Rattle.par2_packets.proofs.LaterDigests.{digested_next}
 use Rattle.par2_packets.proofs.undigested.digest_group.Goals as goal
 
 pub index-requires : goal.index-requires
@@ -10,15 +9,6 @@ index-requires c =
     let count : length c.in_ok-digests.digests.items ≡ c.args.count = ap length c.in_ok-digests.ensures ∙ length-map-range_with_len digest c.args.first c.args.count in
     let low : c.loop-k.k < length c.in_ok-digests.digests.items = omega (arith, count, c.loop-k-test.true) in
     search (rules, low)
-
-pub overwrite-requires : goal.overwrite-requires
-overwrite-requires c =
-    let room = room_for c.args.first c.loop-k.k c.args.count c.args.len c.loop-k-test.true in
-    omega (arith, room, c.requires.packets, c.requires.head, c.loop-k.auto.packets)
-
-pub loop-k-init : goal.loop-k-init
-loop-k-init c =
-    subst (λ b. AreDigested c.args.len c.args.first b c.args.packets.now c.args.packets.now) (let e : c.args.first ≡ c.args.first + 0 = omega arith in e) (none_digested c.args.len c.args.first c.args.packets.now)
 
 pub loop-k-preserved : goal.loop-k-preserved
 loop-k-preserved c =

@@ -1,11 +1,6 @@
 use Rattle.par2_packets.proofs.Common.{◌≡◌, ◌+◌, ◌*◌, min, arith, subst, AreDigested}
-use Rattle.par2_packets.proofs.LaterDigests.{all_digested, none_digested, digested_further}
+use Rattle.par2_packets.proofs.LaterDigests.{all_digested, digested_further}
 use Rattle.par2_packets.proofs.undigested.digest_recoveries.Goals as goal
-
-pub loop-group-init : goal.loop-group-init
-loop-group-init c =
-    let len = 68 + c.args.size in
-    subst (λ b. AreDigested len 0 b c.args.packets.now c.args.packets.now) (let e : 0 ≡ min c.args.count 0 = omega arith in e) (none_digested len 0 c.args.packets.now)
 
 pub loop-group-preserved : goal.loop-group-preserved
 loop-group-preserved c =

@@ -1,5 +1,6 @@
-use Rattle.par2_sets.proofs.Common.{◌≡◌, ◌<◌, ◌≤◌, ◌∙◌, ◌⊎◌, ◌∷◌, [], Some, inl, inr, length, sym, ap, subst, true, false, arith, Fault, Memory, is_among, numbered, aside, taken_for, target_names, long_aside, no_name}
-use Rattle.par2_sets.proofs.TakenNames.{all_names, first_here, first_later, from_one, long_is_no_name, passed_on, too_long}
+use Rattle.par2_sets.proofs.Common.{◌≡◌, ◌<◌, ◌≤◌, ◌∙◌, ◌⊎◌, ◌∷◌, [], Some, inl, inr, length, sym, ap, subst, true, false, arith, Fault, Memory, is_among, numbered, aside, taken_for, target_names, long_aside, no_name, IfErr}
+use Rattle.par2_sets.proofs.TakenNames.{all_names, first_here, first_later, from_one, long_is_no_name, too_long}
+use Rattle.par2_sets.proofs.Refusals.{passed_on}
 use Rattle.par2_sets.proofs.listing.aside.Goals as goal
 
 pub loop-n-init : goal.loop-n-init
@@ -31,4 +32,4 @@ returns-in_err-other-clause-refused c =
           let found : aside folder set name ≡ numbered name n = c.loop-n.invariant ∙ first_here taken name c.args.most n low free in
           inr (too_long folder set name (subst (λ other. 255 < length other) (sym found) long.1) ∙ ap Some (sym long.0))
     ] in
-    passed_on _ fault (long_aside folder set (name ∷ [])) c.from_residual.ensures.1 refused
+    passed_on (λ r. IfErr r (λ f. (f ≡ Memory) ⊎ (long_aside folder set (name ∷ []) ≡ Some f))) _ fault c.from_residual.ensures.1 refused

@@ -1,7 +1,10 @@
-use Rattle.par2_sets.proofs.Common.{lookup, ◌≡◌, ◌∙◌, ℕ, List, map, sym, ap, subst, rules, option_map, nat_cmp, eq_by_cmp, entries, IsStrictlyIncreasing, IfOk-weaker, lookup-map_values, recovery_of, packet_view, entry_of, set_exponents, set_recovery, usable, YieldsList-from_map_by, YieldsList-from_slice, YieldsList-at, YieldsList-from_filter_map, filter_map-map}
+use Rattle.par2_sets.proofs.Common.{lookup, ◌≡◌, ◌∙◌, ℕ, List, map, sym, ap, subst, rules, option_map, nat_cmp, eq_by_cmp, IsStrictlyIncreasing, IfOk-weaker, lookup-map_values, packet_view, entry_of, set_exponents, set_recovery, usable, YieldsList-from_map_by, YieldsList-from_slice, YieldsList-at, YieldsList-from_filter_map, filter_map-map}
 use Rattle.par2_packets.specs.declared.scan.Packet as scan
 use Rattle.par2_sets.proofs.Exponents.{slices_in, pair_of, first_slices, rising}
 use Rattle.par2_sets.proofs.Firsts.{items_of}
+use Rattle.std.specs.BTreeMap.{IsOrdered}
+use Rattle.std.proofs.lemmas.Iterator.{items_from_collect}
+use Rattle.std.proofs.lemmas.Iterator.Consumers.{YieldsList-from_rest}
 use Rattle.par2_sets.proofs.parts.recovery_of.Goals as goal
 
 pub returns : goal.returns
@@ -18,7 +21,10 @@ returns c =
     let says : (q : ℕ) → option_map (λ x. x.now) (lookup (E q) es) ≡ lookup (E q) (slices_in (map packet_view ps) s) = λ q.
     ap (option_map (λ x. x.now)) (ran.2 q) ∙ sym (lookup-map_values (λ x. x.now) (E q) ran.0)
     ∙ ap (lookup (E q)) (items ∙ ap (map pair_of) (sym (filter_map-map (usable s) packet_view ps))) in
-    let same = first_slices (map packet_view ps) s es c.in_order.ensures.rising says in record {
-      value = IfOk-weaker c.in_order.result (λ list. list.items ≡ es) (λ list. set_recovery list.items ≡ entries (recovery_of (map packet_view ps) s)) (λ list e. ap set_recovery e ∙ same) c.in_order.ensures.value;
-      rising = IfOk-weaker c.in_order.result (λ list. list.items ≡ es) (λ list. IsStrictlyIncreasing (set_exponents list.items)) (λ list e. subst (λ xs. IsStrictlyIncreasing (set_exponents xs)) (sym e) (rising es c.in_order.ensures.rising)) c.in_order.ensures.value;
+    let up : IsOrdered nat_cmp c.in_ok-firsts.field-0 = search rules in
+    let same = first_slices (map packet_view ps) s es up says in
+    let all = items_from_collect c.collect.result c.collect.ensures.ran (YieldsList-from_rest es cc) in
+    record {
+      value = IfOk-weaker c.collect.result _ _ (λ list e. ap set_recovery e ∙ same) all;
+      rising = IfOk-weaker c.collect.result _ _ (λ list e. subst (λ xs. IsStrictlyIncreasing (set_exponents xs)) (sym e) (rising es up)) all;
     }

@@ -1,4 +1,6 @@
-use Rattle.par2_sets.proofs.Common.{◌≡◌, ◌∙◌, ◌⊎◌, ◌++◌, ◌∷◌, [], map, inl, inr, sym, ap, rules, Some, Err, arith, Memory, NoChecksums, target_of, all_some, packet_view, targets_or_fault, was_some, ok_or, take_all}
+use Rattle.par2_sets.proofs.Common.{◌≡◌, ◌∙◌, ◌⊎◌, ◌++◌, ◌∷◌, [], map, inl, inr, sym, ap, rules, Some, Err, arith, Memory, NoChecksums, target_of, all_some, packet_view, targets_or_fault, was_some, ok_or, take_all, Returns, Target}
+use Rattle.std.specs.Prelude.{Vec}
+use Rattle.std.specs.declared.alloc.Global.{Global}
 use Rattle.par2_sets.proofs.Lists.{all_some_more}
 use Rattle.par2_sets.proofs.Refusals.{passed_on, one_missing}
 use Rattle.par2_sets.proofs.targets.targets_of.Goals as goal
@@ -8,7 +10,7 @@ returns-in_err-target_of c =
     let packets = map packet_view c.args.packets.now in
     let ds = c.args.descriptions.now in
     let fault = c.in_err-target_of.field-0.0 in
-    passed_on _ _ _ fault c.from_residual-in_err-target_of.ensures.1 (
+    passed_on (λ r. Returns (λ (made : Vec Target Global). made.items) r (targets_or_fault packets c.args.s ds)) _ fault c.from_residual-in_err-target_of.ensures.1 (
     elim (c.in_err-target_of.ensures packets c.in_ok-checksums.ensures) as (λ _. (fault ≡ Memory) ⊎ (targets_or_fault packets c.args.s ds ≡ Err fault)) [
       | inl memory ↦ inl memory
       | inr missing ↦ inr (one_missing (target_of packets c.args.s) ds c.loop-description.description-index c.description-item.result NoChecksums fault c.loop-description-test.true c.description-item.is missing)

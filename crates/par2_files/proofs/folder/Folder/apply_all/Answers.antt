@@ -1,9 +1,6 @@
 use Rattle.par2_files.proofs.Common.{◌<◌, length, arith, change_of}
-use Rattle.par2_files.proofs.Lists.{sets_out, is_accepted, goes_on, arrived, reversed_round}
+use Rattle.par2_files.proofs.Lists.{is_accepted, goes_on, arrived, reversed_round}
 use Rattle.par2_files.proofs.folder.Folder.apply_all.Goals as goal
-
-pub loop-change-init : goal.loop-change-init
-loop-change-init c = sets_out change_of _ _ c.requires
 
 pub unreachable-requires : goal.unreachable-requires
 unreachable-requires c =

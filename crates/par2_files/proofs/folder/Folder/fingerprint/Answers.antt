@@ -1,11 +1,6 @@
-use Rattle.par2_files.proofs.Common.{refl, rules, takes_all}
+use Rattle.par2_files.proofs.Common.{refl, takes_all}
 use Rattle.par2_files.proofs.folder.Folder.fingerprint.Goals as goal
 
 pub fingerprints-requires-clause-taken : goal.fingerprints-requires-clause-taken
 unfolding takes_all
 fingerprints-requires-clause-taken c = refl
-
-pub returns : goal.returns
-returns c =
-    let all = c.in_ok-fingerprints.ensures.along in
-    search rules

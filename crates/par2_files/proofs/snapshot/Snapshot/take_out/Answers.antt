@@ -1,9 +1,5 @@
-use Rattle.par2_files.proofs.Common.{arith}
-use Rattle.par2_files.proofs.Snapshots.{not_absent, taken_from, bytes_taken}
+use Rattle.par2_files.proofs.Snapshots.{taken_from, bytes_taken}
 use Rattle.par2_files.proofs.snapshot.Snapshot.take_out.Goals as goal
-
-pub unreachable-requires : goal.unreachable-requires
-unreachable-requires c = grind (arith, not_absent)
 
 pub returns : goal.returns
 returns c =

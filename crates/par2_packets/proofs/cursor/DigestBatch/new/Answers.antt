@@ -1,4 +1,4 @@
-use Rattle.par2_packets.proofs.Common.{◌+◌, ◌-◌, ◌≡◌, ℕ, List, arith, drop, length, take, ap, sym, ◌∙◌, slice_index, md5}
+use Rattle.par2_packets.proofs.Common.{◌-◌, ◌≡◌, ℕ, List, arith, drop, length, take, ap, sym, ◌∙◌, slice_index, md5}
 use Rattle.std.proofs.lemmas.List.{drop-drop, length-drop, take_all}
 use Rattle.par2_packets.proofs.cursor.DigestBatch.new.Goals as goal
 

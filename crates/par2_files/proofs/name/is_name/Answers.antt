@@ -1,9 +1,0 @@
-use Rattle.par2_files.proofs.Common.{arith}
-use Rattle.par2_files.proofs.Output.{name_parts}
-use Rattle.par2_files.proofs.name.is_name.Goals as goal
-
-pub returns-clause-name : goal.returns-clause-name
-returns-clause-name c = grind (arith, name_parts)
-
-pub returns-then-eq-clause-name : goal.returns-then-eq-clause-name
-returns-then-eq-clause-name c = grind (arith, name_parts)
