@@ -12,3 +12,4 @@ mod VolumeNames
 mod VolumeNumbers
 mod VolumePlaces
 mod VolumeStages
+mod Steps

@@ -107,6 +107,7 @@ fn outputs_written(
 /// The changes of a create, which write its outputs in order, or why it is refused. It returns `Memory` only if an
 /// allocation fails. The checkpoints in `from` save hashing the files before them again. A session calls it;
 /// `par2_plan` has a `plan_create` without checkpoints.
+#[tactic(auto, using(crate::proofs::Steps::for_create_plan_create, crate::proofs::RefusalGroups::refused_by))]
 pub fn plan_create(
     alloc: Global,
     folder: &Folder,

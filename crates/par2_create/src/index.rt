@@ -48,7 +48,7 @@ fn file_len(file: &FileRecord) -> usize {
 
 /// The Recovery Set ID of a set of these files with slices of `s` bytes, and the bytes of its index: Main, the FileDescs,
 /// the IFSCs, Creator. The caller orders the files by File ID, as Main requires; this function keeps their order.
-#[tactic(auto, unfolding(par2_spec::specs::Volumes::index_packets))]
+#[tactic(auto, using(crate::proofs::Steps::for_index_index_of), unfolding(par2_spec::specs::Volumes::index_packets))]
 pub fn index_of(alloc: Global, s: u64, files: &[FileRecord]) -> Result<([u8; 16], Vec<u8>)>
     requires { length files.now ≤ 32768 }
     ensures id { IfOk result (λ made. made.0 ≡ spec.main_id s (map file_record_of files.now)) }

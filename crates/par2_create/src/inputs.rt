@@ -27,6 +27,7 @@ pub struct Input<'f> {
 }
 
 /// Refuses an input that was named before, by `DuplicateInput` with its place, counted from 1.
+#[tactic(auto, using(crate::proofs::Steps::for_inputs_no_duplicate))]
 pub fn no_duplicate(alloc: Global, names: &[Name]) -> Result<(), Fault>
     ensures refused { FailsFor (duplicate_input names.now) result }
     ensures accepted { IfOk result (λ _. duplicate_input names.now ≡ None) }
@@ -76,6 +77,7 @@ fn first_empty(inputs: &[Input]) -> Option<usize>
 }
 
 // Whether the inputs have more than 32,768 slices of `size` bytes, the most that a set may have.
+#[tactic(auto, using(crate::proofs::Steps::for_inputs_are_too_many))]
 fn are_too_many(inputs: &[Input], size: u64) -> bool
     requires { 1 ≤ size }
     ensures { result ≡ nat_lt 32768

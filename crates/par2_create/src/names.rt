@@ -84,6 +84,7 @@ fn volume_at(alloc: Global, base: &Name, first: u32, count: u32, i: u32) -> Resu
 
 /// The volumes of a create with `count` recovery slices from exponent `first` on, in order. It returns `NameTooLong` if
 /// a volume's name would have more than 255 bytes.
+#[tactic(auto, using(crate::proofs::Steps::for_names_volumes))]
 pub fn volumes(alloc: Global, base: &Name, first: u32, count: u32) -> Result<Vec<Volume>, Fault>
     requires base { IsTrue (is_par_name base.now) }
     requires exponents { first + count ≤ 65536 }

@@ -20,6 +20,7 @@ pub fn put_change(folder: &Folder, name: Name, bytes: Vec<u8>) -> Change
 }
 
 /// Appends the changes that write these files.
+#[tactic(auto, using(crate::proofs::Steps::for_outputs_push_files))]
 pub fn push_files(changes: &mut Changes, folder: &Folder, files: Vec<(Name, Vec<u8>)>) -> Result<()>
     ensures { let added = map (λ file. put_change folder.now.files (as_file file)) files.items in
         OnOk result (changes.new ≡ changes.old ++ added) }

@@ -30,6 +30,7 @@ pub struct RecoverySet {
 
 /// The records of these inputs, in this order, for slices of `s` bytes. `md5s` are the MD5s of the inputs, which the
 /// caller computes side by side. `AreRecords`: record k is that of file k.
+#[tactic(auto, using(crate::proofs::Steps::for_records_file_records))]
 pub fn file_records(
     alloc: Global,
     inputs: &[Input],
@@ -51,6 +52,7 @@ pub fn file_records(
 
 /// The records in the order of their File IDs as little-endian numbers. It takes no memory, so its only fault is that
 /// two files have one File ID. For the records of certain files the order is `in_id_order`, that of the definitions.
+#[tactic(auto, using(crate::proofs::Steps::for_records_sorted_by_id))]
 pub fn sorted_by_id(mut files: Vec<FileRecord>) -> Result<Vec<FileRecord>, DuplicateId>
     ensures distinct { IsOk result ↔ IsDistinct bytes_eq (map (λ file. file.id) files.items) }
     ensures rising { IfOk result (λ all. IsStrictlyIncreasing (map record_id_number all.items)) }

@@ -15,6 +15,7 @@ use std::alloc::Global;
 
 // The bytes of the file of this name, none if it is absent. Unlike `Folder::bytes_of` it takes a string, as records
 // have it.
+#[tactic(auto, using(crate::proofs::Steps::for_sources_bytes_of))]
 fn bytes_of<'a>(folder: &'a Folder, name: &str) -> &'a [u8]
     ensures { result.now ≡ bytes_of folder.now.files name.now }
 {
@@ -27,6 +28,7 @@ fn bytes_of<'a>(folder: &'a Folder, name: &str) -> &'a [u8]
 }
 
 // The slices, followed by those of one more file of these bytes, each of `s` bytes but the last.
+#[tactic(auto, using(crate::proofs::Steps::for_sources_with_slices))]
 fn with_slices<'a>(slices: Vec<&'a [u8]>, bytes: &'a [u8], s: u64) -> Result<Vec<&'a [u8]>>
     requires { 1 ≤ s }
     ensures { IfOk result (λ all. map (spec.padded s) (buffers_of all.items)
@@ -41,6 +43,7 @@ fn with_slices<'a>(slices: Vec<&'a [u8]>, bytes: &'a [u8], s: u64) -> Result<Vec
 
 /// The slices of the files of these records, each of `s` bytes, one file after the other: the inputs of recovery
 /// slices. The last slice of a file isn't padded, and an absent file has no slices.
+#[tactic(auto, using(crate::proofs::Steps::for_sources_input_slices))]
 pub fn input_slices<'a>(
     alloc: Global,
     files: &[FileRecord],

@@ -42,6 +42,7 @@ fn blank_volume(alloc: Global, parts: &Parts, volume: &Volume) -> Result<Vec<u8>
 
 // Appends the places of the recovery slices of volume `i`, from 0: buffer `i`, and the offset in bytes of each slice.
 // `bytes` is that buffer, which only the contract uses.
+#[tactic(auto, using(crate::proofs::Steps::for_volumes_append_places))]
 fn append_places(
     places: &mut Vec<Place>,
     parts: &Parts,
@@ -61,6 +62,7 @@ fn append_places(
 }
 
 // The bytes of all volumes, each in a buffer of its own, with zeros for their recovery slices and MD5s.
+#[tactic(auto, using(crate::proofs::Steps::for_volumes_blank_volumes))]
 fn blank_volumes(alloc: Global, parts: &Parts) -> Result<Vec<Vec<u8>>>
     ensures { IfOk result (AreBuffers (blank_volume parts.now) parts.now.volumes.now) }
 {
@@ -73,6 +75,7 @@ fn blank_volumes(alloc: Global, parts: &Parts) -> Result<Vec<Vec<u8>>>
 }
 
 // The places of the recovery slices of all volumes, in order. `buffers` has the bytes of the volumes.
+#[tactic(auto, using(crate::proofs::Steps::for_volumes_places))]
 fn places(alloc: Global, parts: &Parts, buffers: &[Vec<u8>]) -> Result<Vec<Place>>
     requires { lists_of buffers.now ≡ map (blank_volume parts.now) parts.now.volumes.now }
     ensures { IfOk result (λ places. places.items ≡ places_of parts.now parts.now.volumes.now) }
@@ -96,6 +99,7 @@ fn exponents_of(alloc: Global, parts: &Parts) -> Result<Vec<u32>>
 }
 
 // Writes the recovery slices of all volumes at their places in `out`, the buffers of the volumes.
+#[tactic(auto, using(crate::proofs::Steps::for_volumes_write_slices))]
 fn write_slices(alloc: Global, parts: &Parts, out: &mut [Vec<u8>]) -> Result<()>
     requires { lists_of out.old ≡ map (blank_volume parts.now) parts.now.volumes.now }
     ensures { OnOk result (lists_of out.new ≡ map (with_slices parts.now) parts.now.volumes.now) }
@@ -119,6 +123,7 @@ fn digest_volume(alloc: Global, bytes: &mut [u8], parts: &Parts, volume: &Volume
 }
 
 // Takes the buffers of the volumes, fills in the MD5s, and returns the buffers with the names of the volumes.
+#[tactic(auto, using(crate::proofs::Steps::for_volumes_digested))]
 fn digested(
     alloc: Global,
     parts: &Parts,
@@ -138,6 +143,7 @@ fn digested(
 
 /// The volumes as files, in order: names with bytes. If there are none, no table of the field is made and no input is
 /// read.
+#[tactic(auto, using(crate::proofs::Steps::for_volumes_volume_files))]
 pub(crate) fn volume_files(alloc: Global, parts: &Parts) -> Result<Vec<(Name, Vec<u8>)>>
     ensures { IfOk result (AreFiles parts.now parts.now.volumes.now) }
 {

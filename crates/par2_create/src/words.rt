@@ -56,6 +56,7 @@ fn first_bad(words: &[String]) -> Option<usize>
 
 /// The fault `BadName` with the place of the first argument, from 1, that can't be the name of an input. It takes no
 /// memory.
+#[tactic(auto, using(crate::proofs::Steps::for_words_bad_name))]
 pub fn bad_name(words: &[String]) -> Option<Fault>
     ensures { result ≡ bad_name (map string_bytes words.now) }
 {

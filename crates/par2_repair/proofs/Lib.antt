@@ -13,3 +13,4 @@ mod Cutting
 mod Merging
 mod Rebuilds
 mod TargetWalks
+mod Steps

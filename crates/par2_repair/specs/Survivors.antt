@@ -4,7 +4,7 @@ use Rattle.std.specs.FinMap.{entries}
 use Rattle.par2_spec.specs.Sets.{ParSet}
 use Rattle.par2_spec.specs.declared.Fault as faults
 use Rattle.par2_spec.specs.declared.Fault.TheVariants as reasons
-use Rattle.par2_solve.specs.Survivors.{known_of, recovered_of}
+use Rattle.par2_solve.specs.Rebuilding.{known_of, recovered_of}
 use Rattle.par2_solve.specs.declared.rebuild_slices.RebuildFault.{RebuildFault}
 use Rattle.par2_solve.specs.declared.rebuild_slices.RebuildFault.TheVariants.{NotRepairable, Memory}
 use Rattle.par2_solve.specs.declared.rebuild_slices.Survivors.{Survivors}

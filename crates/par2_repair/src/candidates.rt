@@ -11,6 +11,7 @@ use std::alloc::Global;
 use std::collections::BTreeSet;
 
 // Each name once, in the order of first occurrence: an extra file may be named twice or be a target.
+#[tactic(auto, using(std::proofs::lemmas::List::take_all))]
 fn distinct(alloc: Global, names: &[&Name]) -> Result<Vec<Name>>
     ensures { IfOk result (λ list. list.items ≡ distinct (map (λ name. name.now) names.now)) }
 {

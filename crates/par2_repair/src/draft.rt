@@ -37,6 +37,7 @@ impl Draft {
     ghost use Rattle.par2_repair.specs.Written.{buffers_written};
 
     /// The bytes of the files that the changes write, in order: the caller computes their MD5s for `tested`.
+    #[tactic(auto, using(std::proofs::lemmas::List::take_all))]
     pub fn buffers(&self, alloc: Global) -> Result<Vec<&[u8]>>
         ensures { IfOk result (λ all. buffers_of all.items ≡ buffers_written self.now.changes) }
     {
@@ -51,6 +52,7 @@ impl Draft {
 
     /// The changes, if the MD5s `found` of the written files are those that the set describes (`HasItsMd5s`). Otherwise
     /// it returns `RepairFailed`.
+    #[tactic(auto, using(crate::proofs::Steps::tested))]
     pub fn tested(self, found: &[[u8; 16]]) -> Result<Changes, Fault>
         requires { found.now ≡ map md5 (buffers_written self.changes) }
         ensures changes { IfOk result (λ changes. changes ≡ self.changes) }

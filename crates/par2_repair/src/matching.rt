@@ -53,6 +53,7 @@ pub fn is_incomplete(folder: &Folder, set: &ParSet, target: &Target) -> bool
 }
 
 // The incomplete targets of a set, in order, and a tree of the names of the others.
+#[tactic(auto, using(std::proofs::lemmas::List::take_all))]
 fn parted<'s>(
     alloc: Global,
     folder: &Folder,
@@ -75,6 +76,7 @@ fn parted<'s>(
 }
 
 // The candidates that aren't names of intact targets, in order. A file that is in its place is no match.
+#[tactic(auto, using(std::proofs::lemmas::List::take_all))]
 fn free_names<'n>(alloc: Global, intact: BTreeSet<&'n Name>, names: &'n [Name]) -> Result<Vec<Name>>
     ensures { (all : List (List ℕ)) → HoldsNames intact.entry all →
         Lists (filter (λ name. not (is_among all name)) names.now) result }

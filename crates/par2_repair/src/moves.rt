@@ -72,6 +72,7 @@ fn asides_by_name(alloc: Global, names: &[Name], asides: &[Name]) -> Result<Asid
 
 /// The moves of a repair of a set with these incomplete targets. It returns `NameTooLong` if an aside would have more
 /// than 255 bytes.
+#[tactic(auto, using(std::proofs::lemmas::Result::err_from_is_err_and, par2_spec::proofs::PassedAnswers::refused_by))]
 pub fn moves_of<'n, 's>(
     alloc: Global,
     folder: &Folder,
@@ -118,6 +119,7 @@ fn now_at(asides: &Asides, name: &Name) -> Name
 }
 
 // Adds the changes that put these files aside, each by a rename.
+#[tactic(auto, using(std::proofs::Common::append_assoc, std::proofs::lemmas::List::map_more))]
 fn push_asides(changes: &mut Changes, names: &[Name], asides: &Asides) -> Result<()>
     ensures { OnOk result (changes.new ≡ changes.old ++ renamed asides.now names.now) }
 {
@@ -170,6 +172,7 @@ fn push_removed(
 /// The changes of a repair: files are put aside, targets take their matches, and the targets without a match,
 /// `restored`, are written. A repair that purges then removes the asides that are left and the set's PAR2 files, but no
 /// match, because it is a target by then.
+#[tactic(auto, using(crate::proofs::Steps::repair_changes))]
 pub fn repair_changes(
     alloc: Global,
     reading: &Reading,

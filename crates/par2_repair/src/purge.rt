@@ -18,6 +18,7 @@ use std::alloc::Global;
 
 // The changes of a purge of this set: a removal for each of its PAR2 files, which are `own` without targets. It returns
 // `NotComplete` if a target is absent or not intact.
+#[tactic(auto, using(std::proofs::lemmas::List::map_more, std::proofs::lemmas::List::take_all))]
 fn purge_of(alloc: Global, folder: &Folder, set: &ParSet, own: &[Name]) -> Result<Changes, Fault>
     requires { own.now ≡ own_files folder.now.files set.now.id }
     ensures refused { FailsFor (purge_refusal folder.now.files set.now) result }
@@ -38,6 +39,7 @@ fn purge_of(alloc: Global, folder: &Folder, set: &ParSet, own: &[Name]) -> Resul
 
 /// The changes of a purge, which removes the set's PAR2 files if all targets are complete, and is refused otherwise.
 /// Memory is reported only if an allocation fails.
+#[tactic(auto, using(crate::proofs::Steps::plan_purge))]
 pub fn plan_purge(alloc: Global, folder: &Folder, base: &str) -> Result<Changes, Fault>
     // It is refused as the definitions say, or memory ran out; early refusals need no memory.
     ensures refused { FailsAs folder.now.files (Purge base.now) result }

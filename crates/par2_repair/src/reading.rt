@@ -22,6 +22,7 @@ pub struct Reading<'a> {
 }
 
 // The word as a name, if a file of the folder has this name.
+#[tactic(auto, using(crate::proofs::Steps::present))]
 fn present(folder: &Folder, word: &str) -> Option<Name>
     ensures variant { is_some result ≡ has folder.now.files word.now }
     ensures value { IfSome result (λ name. name ≡ word.now) }
@@ -45,6 +46,7 @@ fn first_absent(folder: &Folder, words: &[String]) -> Option<usize>
 
 // The name of the base, if it and all extra words are names of files in the folder. `NoSuchFile` has the number of the
 // first absent file: 0 for the base, then the extras.
+#[tactic(auto, using(crate::proofs::Steps::base_name))]
 fn base_name(folder: &Folder, base: &str, extras: &[String]) -> Result<Name, Fault>
     ensures { let absent = absent_file folder.now.files base.now (words extras.now) in
         MatchResult result (λ name. (name ≡ base.now) × (absent ≡ None)) (λ e. absent ≡ Some e) }
@@ -65,6 +67,7 @@ fn present_extras(alloc: Global, folder: &Folder, extras: &[String]) -> Result<V
 }
 
 /// Reads the set of the base. A file that is absent is the first fault, and finding it takes no memory.
+#[tactic(auto, using(crate::proofs::Steps::read))]
 pub fn read<'a>(
     alloc: Global,
     folder: &'a Folder,

@@ -5,7 +5,7 @@ ghost use Rattle.par2_spec.specs.Changes.{are_applicable, effects};
 ghost use Rattle.par2_spec.specs.Plans.{AreFewFor};
 ghost use Rattle.par2_spec.specs.Refusals.{repair_refusal};
 ghost use Rattle.par2_spec.specs.Search.{matches};
-ghost use Rattle.par2_laws.specs.Answers.{RestoresFiles, RestoresInputs, folder_left};
+ghost use Rattle.par2_spec.specs.RepairLaws.{RestoresFiles, RestoresInputs, folder_left};
 ghost use Rattle.par2_repair.specs.Restoring.{md5s_of, undetermined_fault};
 ghost use Rattle.par2_sets.specs.Asides.{HoldsOwned};
 ghost use Rattle.par2_sets.specs.SetReading.{own_files};
@@ -54,6 +54,7 @@ fn files_for<'s>(
 }
 
 // The MD5s that the set describes for these targets, in order, with which `Draft::tested` compares.
+#[tactic(auto, using(crate::proofs::Steps::md5s_of))]
 fn md5s_of(alloc: Global, restored: &[Restored]) -> Result<Vec<[u8; 16]>>
     ensures { Lists (md5s_of restored.now) result }
 {
@@ -63,6 +64,7 @@ fn md5s_of(alloc: Global, restored: &[Restored]) -> Result<Vec<[u8; 16]>>
 // The draft of a repair of the set, with its incomplete targets and their matches among the candidates, `names`. It is
 // refused if the lost slices aren't determined or an aside is too long. `IsDraftBy`: only a wrong MD5 can still refuse
 // it.
+#[tactic(auto, using(crate::proofs::Steps::draft_with))]
 fn draft_with(
     alloc: Global,
     folder: &Folder,
@@ -92,6 +94,7 @@ fn draft_with(
 /// written from found or rebuilt slices. With `purge`, the asides that are left and the set's PAR2 files are then
 /// removed. The MD5s of the written files are left to check, because `par2_journal` computes them beside fingerprints.
 /// A wrong one is the last cause of a refusal. Memory is reported only if an allocation fails.
+#[tactic(auto, using(crate::proofs::Steps::draft_repair))]
 pub fn draft_repair(
     alloc: Global,
     folder: &Folder,
@@ -125,6 +128,7 @@ fn tested(alloc: Global, draft: Draft) -> Result<Changes, Fault>
 /// The changes of a repair whose written files have the described MD5s. If the set was made from certain files, and
 /// no checksum collides, the changes lead to a folder that has these files. The program doesn't call it,
 /// because a session drafts its repairs.
+#[tactic(auto, using(par2_spec::proofs::PassedAnswers::passed))]
 pub fn plan_repair(
     alloc: Global,
     folder: &Folder,

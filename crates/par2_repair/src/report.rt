@@ -78,6 +78,7 @@ impl Report {
     /// Complete, repairable or neither. A report on a set is repairable if and only if a target is incomplete and the
     /// surviving recovery slices determine the lost slices, that is, if the rank is the number of lost slices. It
     /// allocates nothing.
+    #[tactic(auto, using(crate::proofs::Steps::verdict))]
     pub fn verdict(&self) -> Verdict
         ensures answer { result ≡ verdict_of (report_view self.now) }
         ensures words { (folder : folders.Folder) (base : List ℕ) (extras : List (List ℕ))
@@ -151,6 +152,7 @@ fn target_reports(
 }
 
 // The numbers of the lost slices, increasing. They count the slices of the set, which have these checksums, from 0.
+#[tactic(auto, using(crate::proofs::Steps::lost_numbers))]
 fn lost_numbers(alloc: Global, pairs: &[Pair], lost: &BTreeSet<Pair>) -> Result<Vec<u32>>
     requires { length pairs.now ≤ 32768 }
     ensures { Lists (numbers_of_lost 0 (contains pair_cmp lost.now) pairs.now) result }
@@ -173,6 +175,7 @@ fn exponents(alloc: Global, recovery: &[(u32, &[u8])]) -> Result<Vec<u32>>
 
 // The rank of the set's recovery slices in the lost slices of these numbers: how many of their equations are linearly
 // independent. The field's tables are built only if runs of exponents don't determine it.
+#[tactic(auto, using(crate::proofs::Steps::rank_of))]
 fn rank_of(alloc: Global, set: &ParSet, lost: &[u32]) -> Result<usize>
     requires { (i : ℕ) → slice_index lost.now i < 32768 }
     ensures { IfOk result (λ n. n ≡ ranks.rank lost.now (survivors set.now)) }

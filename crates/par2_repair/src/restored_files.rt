@@ -67,6 +67,7 @@ fn push_among<'s>(
 
 /// The targets whose names are in `among`, in the order of the set, cut out of all its slices. Each has the described
 /// length, and its MD5 is left to check.
+#[tactic(auto, using(crate::proofs::Steps::restored_files))]
 pub fn restored_files<'s>(
     alloc: Global,
     set: &'s ParSet,

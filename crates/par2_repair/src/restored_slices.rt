@@ -10,10 +10,9 @@ ghost use Rattle.par2_spec.specs.Sets.{all_pairs};
 ghost use Rattle.par2_spec.specs.Slices.{padded};
 ghost use Rattle.std.specs.Vec.Iter.{into_iter_items};
 ghost use Rattle.par2_slices.specs.Positions.{Window, buffers_of};
-ghost use Rattle.par2_solve.specs.Survivors.{exponents_of, IsTrueFault};
+ghost use Rattle.par2_solve.specs.Rebuilding.{AreEnough, AreRebuilt, CanRebuild, IsTrueFault, exponents_of, known_among};
 ghost use Rattle.par2_repair.specs.Restoring.{known_in, undetermined_fault};
 ghost use Rattle.par2_repair.specs.Survivors.{AreSurvivorsOf, repair_fault_of};
-ghost use Rattle.par2_solve.specs.Rebuilding.{known_among, AreRebuilt, AreEnough, CanRebuild};
 ghost use Rattle.par2_repair.specs.SliceBytes.{windows_and_buffers, slices_of, slice_bytes};
 
 use par2_sets::{ParSet, Target};
@@ -62,6 +61,7 @@ impl<'a> Model for RestoredSlices<'a> {
 }
 
 // Appends a slice of `s` bytes with its padding to the first bytes of a file, up to `size`, the file's length in bytes.
+#[tactic(auto, using(crate::proofs::SliceLists::where_ok, crate::proofs::Cutting::one_more_slice))]
 fn push_slice(file: &mut Vec<u8>, slice: &[u8], s: usize, size: usize) -> Result<()>
     requires { length file.old.items ≤ size }
     ensures { OnOk result (file.new.items ≡ take size (file.old.items ++ padded s slice.now)) }
@@ -74,6 +74,7 @@ fn push_slice(file: &mut Vec<u8>, slice: &[u8], s: usize, size: usize) -> Result
 }
 
 // The first `size` bytes of these slices, joined with their padding: the file of this length that has these slices.
+#[tactic(auto, using(std::proofs::lemmas::List::take_all))]
 fn joined(alloc: Global, slices: &[Slice], slice_size: usize, size: usize) -> Result<Vec<u8>>
     ensures { Lists (take size (concat (slices_of slice_size slices.now))) result }
 {
@@ -86,6 +87,7 @@ fn joined(alloc: Global, slices: &[Slice], slice_size: usize, size: usize) -> Re
 
 impl<'a> RestoredSlices<'a> {
     // The file of `size` bytes that has the `count` slices from number `at` of the set on.
+    #[tactic(auto, using(crate::proofs::Steps::file))]
     pub(crate) fn file(&self, alloc: Global, at: usize, count: usize, size: u64) -> Result<Vec<u8>>
         requires { at + count ≤ length self.now }
         ensures { Lists (take size (concat (take count (drop at self.now)))) result }
@@ -138,6 +140,7 @@ fn slice_at<'a>(
 }
 
 // The found slices, and between them the rebuilt ones: the k-th rebuilt slice takes the place of the k-th `None`.
+#[tactic(auto, using(crate::proofs::Steps::merged))]
 fn merged<'a>(
     alloc: Global,
     windows: &[Option<&'a [u8]>],
@@ -186,6 +189,7 @@ fn slices_by<'a>(
 /// All slices of a set: those that are found in `buffers`, the bytes of the candidates (`known_in`), and the lost ones,
 /// rebuilt from its recovery slices. `rebuilt`: the only list that agrees with both. It returns `NotRepairable` if more
 /// than one does.
+#[tactic(auto, using(crate::proofs::Steps::restored_slices))]
 pub fn restored_slices<'a>(
     alloc: Global,
     set: &ParSet<'a>,

@@ -20,6 +20,7 @@ use std::alloc::Global;
 
 // The report on this set, whose files and slices are searched for in the files of its targets and in the extras. If it
 // is the set of a base, this is the report of that base.
+#[tactic(auto, using(par2_spec::proofs::NamesLaws::std_from_distinct, crate::proofs::Choices::distinct_once))]
 fn report_of(alloc: Global, folder: &Folder, set: &ParSet, extras: &[Name]) -> Result<Report>
     ensures { (base : List ℕ) → set_in folder.now.files base extras.now ≡ Ok set.now →
         let answer = report_in folder.now.files base extras.now in
@@ -37,6 +38,7 @@ fn report_of(alloc: Global, folder: &Folder, set: &ParSet, extras: &[Name]) -> R
 /// extras. Its verdict is complete if and only if no target is incomplete; else repairable if and only if the surviving
 /// recovery slices determine the lost slices. A repair is refused as not repairable if and only if the verdict is that.
 /// Memory is reported only if an allocation fails.
+#[tactic(auto, using(crate::proofs::Steps::check))]
 pub fn check(alloc: Global, folder: &Folder, base: &str, extras: &[String]) -> Result<Report, Fault>
     ensures refused { FailsIn (report_in folder.now.files base.now (words extras.now)) result }
     ensures early { RefusesEarly folder.now.files (verify_of base.now extras.now) result }

@@ -1,10 +1,10 @@
-use Rattle.par2_create.proofs.Common.{◌≡◌, ◌∙◌, ◌∷◌, inr, refl, sym, ap, ap₂, subst, true, Some, Err, List, ℕ, map, string_bytes, None, Option, is_par_name, err_from_is_err_and, Folder, Create, CreateArgs, bad_name, early_refusal, refusal, after, create_args_of, Fault, Volume, long_name, existing, inputs_fault, volumes_of, volume_names, output_names, are_applicable, effects, changes_of, create_applies, answered_so, never_found}
+use Rattle.par2_create.proofs.Common.{◌≡◌, ◌∙◌, ◌∷◌, inr, refl, sym, ap, ap₂, subst, true, Some, List, ℕ, map, string_bytes, None, Option, is_par_name, err_from_is_err_and, Folder, Create, CreateArgs, bad_name, early_refusal, refusal, after, create_args_of, Fault, Volume, long_name, existing, volumes_of, volume_names, output_names, are_applicable, effects, changes_of, create_applies}
 use Rattle.par2_spec.proofs.EarlyLaws.{refused_early}
 use Rattle.par2_spec.proofs.CommandLaws.{create_leads}
 use Rattle.par2_create.proofs.GoodWords.{head_passed}
 use Rattle.par2_create.proofs.VolumeNumbers.{long_without_base}
 use Rattle.par2_create.proofs.RefusalGroups.{early_by, refused_by}
-use Rattle.par2_create.proofs.create.plan_create.Goals.{In-Some, After-set_of_inputs, After-existing}
+use Rattle.par2_create.proofs.create.plan_create.Goals.{In-Some, After-existing}
 use Rattle.par2_spec.proofs.PassedAnswers as passed
 use Rattle.par2_create.proofs.create.plan_create.Goals as goal
 
@@ -12,10 +12,6 @@ use Rattle.par2_create.proofs.create.plan_create.Goals as goal
 early_word : (c : In-Some) → early_refusal c.args.folder.now.files (Create (create_args_of c.args.args.now)) ≡ Some c.in-Some.fault
 early_word c =
     early_by c.args.folder.now.files _ None (Some c.in-Some.fault) c.in_ok-base.ensures.accepted (ap (λ words. bad_name (map string_bytes words)) (sym c.deref.ensures.value) ∙ sym c.bad_name.ensures ∙ c.in-Some.is)
-
-none_early : (c : After-set_of_inputs) → early_refusal c.args.folder.now.files (Create (create_args_of c.args.args.now)) ≡ None
-none_early c =
-    early_by c.args.folder.now.files _ None None c.in_ok-base.ensures.accepted (ap (λ words. bad_name (map string_bytes words)) (sym c.deref.ensures.value) ∙ sym c.bad_name.ensures ∙ c.in_default.is)
 
 -- the outputs' names are short enough, and are the ones that were looked up
 abbrev AreNamed : Folder → CreateArgs → Option Fault → Type 0
@@ -31,41 +27,12 @@ named c =
       ap (existing c.args.folder.now.files a.overwrite) (sym names) ∙ sym c.existing.ensures,
     )
 
-pub returns-in_err-base-clause-refused : goal.returns-in_err-base-clause-refused
-returns-in_err-base-clause-refused c =
-    let folder = c.args.folder.now.files in
-    let a = create_args_of c.args.args.now in
-    let fault : Fault = c.in_err-base.field-0.0 in
-    passed.refused_by (λ y. y ≡ fault) (λ y. refusal folder (Create a) ≡ Some y) c.from_residual.result fault (err_from_is_err_and c.from_residual.result c.from_residual.ensures.1) (inr refl)
-    (λ _. refused_by folder a (Some fault) _ _ _ c.in_err-base.ensures.refused refl refl refl)
-
-pub returns-in_err-base-clause-early : goal.returns-in_err-base-clause-early
-returns-in_err-base-clause-early c fault early =
-    let p = err_from_is_err_and c.from_residual.result c.from_residual.ensures.1 in
-    answered_so c.from_residual.result _ c.in_err-base.field-0.0 fault (p.1 ∙ ap Err p.2)
-    (early_by c.args.folder.now.files (create_args_of c.args.args.now) (Some c.in_err-base.field-0.0) _ c.in_err-base.ensures.refused refl) early
-
 pub returns-in-Some-clause-refused : goal.returns-in-Some-clause-refused
 returns-in-Some-clause-refused c =
     inr (refused_early c.args.folder.now.files (Create (create_args_of c.args.args.now)) c.in-Some.fault (early_word (goal.at.returns-in-Some-clause-refused c).In-Some))
 
-pub returns-in-Some-clause-early : goal.returns-in-Some-clause-early
-returns-in-Some-clause-early c fault early = answered_so _ _ c.in-Some.fault fault refl (early_word (goal.at.returns-in-Some-clause-early c).In-Some) early
-
 pub set_of_inputs-requires-clause-slice : goal.set_of_inputs-requires-clause-slice
 set_of_inputs-requires-clause-slice c = (head_passed _ c.in_ok-base.ensures.accepted).positive
-
-pub set_of_inputs-requires-clause-words : goal.set_of_inputs-requires-clause-words
-set_of_inputs-requires-clause-words c = ap (λ words. bad_name (map string_bytes words)) (sym c.deref.ensures.value) ∙ sym c.bad_name.ensures ∙ c.in_default.is
-
-pub returns-in_err-set-clause-refused : goal.returns-in_err-set-clause-refused
-returns-in_err-set-clause-refused c =
-    let folder = c.args.folder.now.files in
-    let a = create_args_of c.args.args.now in
-    let fault : Fault = c.in_err-set.field-0.0 in
-    passed.refused_by (λ y. inputs_fault folder a ≡ Some y) (λ y. refusal folder (Create a) ≡ Some y) c.from_residual-in_err-set.result fault
-    (err_from_is_err_and c.from_residual-in_err-set.result c.from_residual-in_err-set.ensures.1) c.in_err-set.ensures.refused
-    (λ cause. refused_by folder a None (Some fault) _ _ c.in_ok-base.ensures.accepted cause refl refl)
 
 pub volumes-requires-clause-base : goal.volumes-requires-clause-base
 volumes-requires-clause-base c = subst (λ base. is_par_name base ≡ true) (sym c.in_ok-base.ensures.name) (head_passed _ c.in_ok-base.ensures.accepted).par_name
@@ -104,29 +71,3 @@ returns-clause-applies c = ap (are_applicable c.args.folder.now.files) c.in_ok-c
 pub returns-clause-leads : goal.returns-clause-leads
 unfolding after
 returns-clause-leads c = ap (effects c.args.folder.now.files) c.in_ok-changes.ensures ∙ create_leads c.args.folder.now.files (create_args_of c.args.args.now)
-
-pub returns-in_err-set-clause-early : goal.returns-in_err-set-clause-early
-returns-in_err-set-clause-early c fault early = absurd (never_found _ fault (none_early (goal.at.returns-in_err-set-clause-early c).After-set_of_inputs) early)
-
-pub returns-in_err-volumes-clause-early : goal.returns-in_err-volumes-clause-early
-returns-in_err-volumes-clause-early c fault early = absurd (never_found _ fault (none_early (goal.at.returns-in_err-volumes-clause-early c).After-set_of_inputs) early)
-
-pub returns-in-Some-existing-clause-early : goal.returns-in-Some-existing-clause-early
-returns-in-Some-existing-clause-early c fault early = absurd (never_found _ fault (none_early (goal.at.returns-in-Some-existing-clause-early c).After-set_of_inputs) early)
-
-pub returns-in_err-changes-clause-early : goal.returns-in_err-changes-clause-early
-returns-in_err-changes-clause-early c fault early = absurd (never_found _ fault (none_early (goal.at.returns-in_err-changes-clause-early c).After-set_of_inputs) early)
-
-pub returns-clause-early : goal.returns-clause-early
-returns-clause-early c fault early = absurd (never_found _ fault (none_early (goal.at.returns-clause-early c).After-set_of_inputs) early)
-
-pub outputs_written-requires : goal.outputs_written-requires
-outputs_written-requires c =
-    let a = create_args_of c.args.args.now in
-    record {
-      head = c.in_ok-base.ensures.accepted;
-      inputs = c.in_ok-set.ensures.passed;
-      base = c.in_ok-base.ensures.name;
-      set = c.in_ok-set.ensures.set;
-      volumes = c.deref-3.ensures.value ∙ c.in_ok-volumes.ensures.volumes ∙ ap (λ base. volumes_of base a.first a.count) c.in_ok-base.ensures.name;
-    }

@@ -1,5 +1,5 @@
 use Rattle.par2_create.proofs.Common.{◌≡◌, ◌∙◌, ◌+◌, ◌++◌, ◌∷◌, [], ℕ, List, Bor, inr, sym, ap, Some, true, false, not, get_or, take, subst, arith, below_more, option_map, get_or_default, take_more, not-true, not-false, is_among, holds_more, DuplicateInput, HoldsNames}
-use Rattle.par2_create.proofs.Places.{again_found, again_nowhere}
+use Rattle.par2_create.proofs.Places.{again_found}
 use Rattle.par2_create.proofs.inputs.no_duplicate.Goals as goal
 
 pub returns-then-not-branch-clause-refused : goal.returns-then-not-branch-clause-refused
@@ -28,6 +28,3 @@ loop-i-preserved c =
       below_more _ _ c.loop-i.invariant.0 (ap (is_among before) (sym name) ∙ out),
       subst (HoldsNames c.insert.new.self) (sym more) (holds_more (λ (k : Bor (List ℕ)). k.now) _ _ key before c.in_ok-insert.ensures.updates.0 c.loop-i.invariant.1),
     )
-
-pub returns-clause-accepted : goal.returns-clause-accepted
-returns-clause-accepted c = ap (option_map (λ k. DuplicateInput (1 + k))) (again_nowhere c.args.names.now (λ k h. c.loop-i.invariant.0 k (omega (arith, h, c.loop-i-test.false))))

@@ -1,5 +1,4 @@
-use Rattle.par2_create.proofs.Common.{◌≡◌, ◌∙◌, ◌+◌, ◌*◌, length, rules, ◌++◌, ◌∷◌, [], ℕ, List, map, sym, ap, append-nil, append_assoc, zero-add, arith, range_with_len, map-range_with_len_more, Place, place_in}
-use Rattle.par2_create.proofs.VolumePlaces.{packet_ends}
+use Rattle.par2_create.proofs.Common.{◌≡◌, ◌∙◌, ◌+◌, ◌*◌, length, rules, ◌++◌, ◌∷◌, [], ℕ, List, map, sym, ap, append_assoc, zero-add, range_with_len, map-range_with_len_more, Place, place_in}
 use Rattle.par2_create.proofs.volumes.append_places.Goals as goal
 
 pub loop-k-preserved : goal.loop-k-preserved
@@ -13,23 +12,3 @@ loop-k-preserved c =
     ∙ ap (λ (xs : List Place). xs ++ place k ∷ []) c.loop-k.invariant
     ∙ append_assoc was (map place (range_with_len 0 k)) (place k ∷ [])
     ∙ ap (λ (xs : List Place). was ++ xs) (sym (map-range_with_len_more place 0 k k (zero-add k)))
-
-pub loop-k-init : goal.loop-k-init
-loop-k-init c = sym (append-nil c.args.places.now.items)
-
-pub returns : goal.returns
-returns c =
-    c.loop-k.invariant
-    ∙ ap (λ n. c.args.places.now.items ++ map (place_in c.args.parts.now c.args.i) (range_with_len 0 n)) (let e : c.loop-k.k ≡ c.args.volume.now.count = omega arith in e)
-
-pub overflow_mul-at : goal.overflow_mul-at
-overflow_mul-at c =
-    omega (arith, packet_ends (length c.args.parts.now.index.items) c.loop-k.k c.args.volume.now.count (68 + c.args.parts.now.set.now.slice) (length c.args.bytes.now) c.loop-k-test.true c.requires)
-
-pub overflow_add-at : goal.overflow_add-at
-overflow_add-at c =
-    omega (arith, packet_ends (length c.args.parts.now.index.items) c.loop-k.k c.args.volume.now.count (68 + c.args.parts.now.set.now.slice) (length c.args.bytes.now) c.loop-k-test.true c.requires)
-
-pub overflow_add-at-in-loop-k : goal.overflow_add-at-in-loop-k
-overflow_add-at-in-loop-k c =
-    omega (arith, packet_ends (length c.args.parts.now.index.items) c.loop-k.k c.args.volume.now.count (68 + c.args.parts.now.set.now.slice) (length c.args.bytes.now) c.loop-k-test.true c.requires)

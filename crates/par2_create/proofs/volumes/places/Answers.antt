@@ -3,11 +3,6 @@ use Rattle.par2_create.proofs.SliceLists.{appended_all, appended_next}
 use Rattle.par2_create.proofs.VolumePlaces.{length-volume}
 use Rattle.par2_create.proofs.volumes.places.Goals as goal
 
-pub bounds-buffers-i : goal.bounds-buffers-i
-bounds-buffers-i c =
-    let many = ap length c.requires in
-    omega (arith, many, length-map c.args.buffers.now (λ (bytes : Vec ℕ Global). bytes.items), length-map c.args.parts.now.volumes.now (blank_volume c.args.parts.now), c.loop-i-test.true)
-
 pub append_places-requires : goal.append_places-requires
 append_places-requires c =
     let volumes : List Volume = c.args.parts.now.volumes.now in

@@ -1,6 +1,6 @@
-use Rattle.par2_create.proofs.Common.{◌≡◌, ◌∙◌, ◌*◌, ◌/◌, List, ℕ, map, sym, ap, subst, arith, length, length-map, on_ok_weaker, padded, lists_of, Place, AreWritten, buffers_of}
+use Rattle.par2_create.proofs.Common.{◌≡◌, ◌∙◌, ◌*◌, ◌/◌, List, ℕ, map, ap, subst, arith, on_ok_weaker, padded, lists_of, Place, AreWritten, buffers_of}
 use Rattle.std.specs.Borrow.{Bor}
-use Rattle.par2_create.proofs.VolumePlaces.{places_apart, places_blank, places_within, length-places, volumes_written}
+use Rattle.par2_create.proofs.VolumePlaces.{places_apart, places_within, volumes_written}
 use Rattle.par2_create.specs.Records.{slices_of_records}
 use Rattle.par2_packets.specs.declared.record.FileRecord.{FileRecord}
 use Rattle.par2_create.specs.declared.index.Parts.{Parts}
@@ -15,29 +15,11 @@ new-outputs-requires c =
     let parts = c.args.parts.now in
     record { apart = rw (c.deref-2.ensures.value, c.in_ok-places.ensures) (places_apart parts (parts.set.now.slice / 2) c.args.parts.now.volumes.now (omega (arith, c.args.parts.now.fours))) }
 
-pub write_recovery_slices-requires-clause-slices : goal.write_recovery_slices-requires-clause-slices
-write_recovery_slices-requires-clause-slices c =
-    let inputs : List (Bor (List ℕ)) = c.deref-3.result.now in
-    let pad = padded c.args.parts.now.set.now.slice in
-    let same = ap length (ap (λ (buffers : List (Bor (List ℕ))). map pad (buffers_of buffers)) c.deref-3.ensures.value ∙ c.in_ok-inputs.ensures ∙ of_files c.args.parts.now c.deref.result.now c.deref.ensures.value) in
-    omega (arith, c.args.parts.now.few, same, length-map (buffers_of inputs) pad, length-map inputs (λ (bytes : Bor (List ℕ)). bytes.now))
-
-pub write_recovery_slices-requires-clause-count : goal.write_recovery_slices-requires-clause-count
-write_recovery_slices-requires-clause-count c =
-    ap length (c.deref-4.ensures.value ∙ c.in_ok-exponents.ensures) ∙ length-places c.args.parts.now c.args.parts.now.volumes.now
-    ∙ sym (ap (λ (all : List Place). length all) (c.new-outputs.ensures.places ∙ c.deref-2.ensures.value ∙ c.in_ok-places.ensures))
-
 pub write_recovery_slices-requires-clause-room : goal.write_recovery_slices-requires-clause-room
 write_recovery_slices-requires-clause-room c =
     let size : 2 * c.new-outputs.result.words ≡ c.args.parts.now.set.now.slice = omega (arith, c.args.parts.now.fours) in
     rw (c.new-outputs.ensures.places, c.deref-2.ensures.value, c.in_ok-places.ensures)
     (places_within c.args.parts.now c.new-outputs.result.words c.args.parts.now.volumes.now (lists_of c.args.out.now) size c.requires)
-
-pub write_recovery_slices-requires-clause-zeros : goal.write_recovery_slices-requires-clause-zeros
-write_recovery_slices-requires-clause-zeros c =
-    let size : 2 * c.new-outputs.result.words ≡ c.args.parts.now.set.now.slice = omega (arith, c.args.parts.now.fours) in
-    rw (c.new-outputs.ensures.places, c.deref-2.ensures.value, c.in_ok-places.ensures)
-    (places_blank c.args.parts.now c.new-outputs.result.words c.args.parts.now.volumes.now (lists_of c.args.out.now) size c.requires)
 
 pub returns : goal.returns
 returns c =

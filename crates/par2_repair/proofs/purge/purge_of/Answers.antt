@@ -1,4 +1,4 @@
-use Rattle.par2_repair.proofs.Common.{◌≡◌, ◌∙◌, ◌++◌, ◌∷◌, [], List, ℕ, length, map, not, sym, ap, ap₂, inr, rules, tests, ◌==◌, map_more, take_all, filter, list_any, fault_where, Change, Remove, is_incomplete, NotComplete, YieldsList-from_slice}
+use Rattle.par2_repair.proofs.Common.{◌≡◌, ◌∙◌, length, not, sym, ap, inr, rules, tests, ◌==◌, filter, list_any, fault_where, is_incomplete, NotComplete, YieldsList-from_slice}
 use Rattle.std.proofs.lemmas.Iterator.Search.{any_from_yields_List}
 use Rattle.par2_repair.proofs.RepairParts.{any_incomplete}
 use Rattle.par2_repair.proofs.purge.purge_of.Goals.{After-any}
@@ -16,15 +16,3 @@ returns-then-any-clause-refused c = inr (ap (λ b. fault_where b NotComplete) (o
 
 pub returns-clause-accepted : goal.returns-clause-accepted
 returns-clause-accepted c = ap (λ b. fault_where b NotComplete) (one_incomplete (goal.at.returns-clause-accepted c).After-any ∙ c.if-any.false)
-
-pub loop-name-preserved : goal.loop-name-preserved
-loop-name-preserved c =
-    let names : List (List ℕ) = c.deref-name-items.result.now in
-    c.in_ok-push.ensures.ok
-    ∙ ap₂ (λ (changes : List Change) name. changes ++ Remove name ∷ []) c.loop-name.invariant (c.copied.ensures ∙ c.name-item.is)
-    ∙ sym (map_more Remove names c.loop-name.name-index c.name-item.result c.loop-name-test.true)
-
-pub returns-clause-changes : goal.returns-clause-changes
-returns-clause-changes c =
-    c.loop-name.invariant
-    ∙ ap (map Remove) (take_all c.loop-name.name-index c.deref-name-items.result.now c.loop-name-test.false ∙ c.deref-name-items.ensures.value ∙ c.in_ok-files.ensures c.args.folder.now.files c.requires)

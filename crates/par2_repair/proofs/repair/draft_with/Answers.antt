@@ -1,5 +1,5 @@
 use Rattle.par2_repair.proofs.Common.{◌≡◌, ◌∙◌, List, ℕ, length, ap, subst, names_without_match, rebuilt_targets, known_by, names_there, AllByRecursion, err_from_is_err_and, repair_refusal, long_aside, undetermined_fault, md5s_of, refused_by, Some, None}
-use Rattle.par2_repair.proofs.RepairParts.{reported_by, targets_are, not_repairable, too_long, by_digests, put_aside_in}
+use Rattle.par2_repair.proofs.RepairParts.{reported_by, targets_are, too_long, by_digests, put_aside_in}
 use Rattle.par2_repair.proofs.repair.draft_with.Goals.{In_ok-restored}
 use Rattle.par2_repair.proofs.repair.draft_with.Goals as goal
 
@@ -8,16 +8,6 @@ reported : (c : In_ok-restored) → undetermined_fault c.args.reading.now.set (k
 reported c =
     let names = names_without_match c.args.incomplete.now in
     reported_by c.args.folder.now.files c.args.reading.now.set c.args.names.now names (ap names_without_match c.requires.incomplete) c.requires.whole (c.in_ok-restored.ensures.restored names c.in_ok-unmatched.ensures).determined
-
-pub returns-in_err-restored-clause-refused : goal.returns-in_err-restored-clause-refused
-returns-in_err-restored-clause-refused c =
-    let folder = c.args.folder.now.files in
-    let set = c.args.reading.now.set in
-    let searched : List (List ℕ) = c.args.names.now in
-    let fault = c.in_err-restored.field-0.0 in
-    refused_by (λ y. undetermined_fault set (known_by folder set searched) ≡ Some y) (λ y. repair_refusal folder set searched ≡ Some y) c.from_residual-in_err-restored.result fault
-    (err_from_is_err_and c.from_residual-in_err-restored.result c.from_residual-in_err-restored.ensures.1) c.in_err-restored.ensures.refused
-    (not_repairable folder set searched fault)
 
 pub returns-in_err-moves-clause-refused : goal.returns-in_err-moves-clause-refused
 returns-in_err-moves-clause-refused c =

@@ -1,5 +1,5 @@
-use Rattle.par2_repair.proofs.Common.{◌≡◌, ◌⊎◌, inl, inr, List, map, string_bytes, IsTrue, Result, Ok, Err, Option, IfErr, Change, effects, are_applicable, Repair, changes_of, AreFewFor, refusal, after, err_again, err_from_is_err_and, Fault, Memory, RepairFailed, HasItsMd5s, WritesAsDescribed, passed, None, Some}
-use Rattle.par2_laws.specs.Answers.{RestoresFiles, RestoresInputs, folder_left}
+use Rattle.par2_repair.proofs.Common.{◌≡◌, ◌⊎◌, inl, inr, List, map, string_bytes, Result, Ok, Err, Option, IfErr, Change, effects, Repair, refusal, after, err_again, err_from_is_err_and, Fault, Memory, RepairFailed, HasItsMd5s, passed, None, Some}
+use Rattle.par2_spec.specs.RepairLaws.{RestoresFiles, RestoresInputs, folder_left}
 use Rattle.par2_laws.proofs.RepairAnswers.{answers}
 use Rattle.par2_repair.proofs.repair.plan_repair.Goals as goal
 
@@ -16,27 +16,10 @@ pub returns-clause-accepted : goal.returns-clause-accepted
 returns-clause-accepted c =
     passed (HasItsMd5s c.in_ok-draft.draft) (λ _. refusal c.args.folder.now.files (Repair c.args.base.now (map string_bytes c.args.extras.now) c.args.purge) ≡ None) c.tested.result c.in_ok-draft.draft.changes c.tested.ensures.changes c.tested.ensures.right c.in_ok-draft.ensures.draft.accepted
 
-pub returns-clause-changes : goal.returns-clause-changes
-returns-clause-changes c =
-    passed (HasItsMd5s c.in_ok-draft.draft) (λ changes. changes ≡ changes_of c.args.folder.now.files (Repair c.args.base.now (map string_bytes c.args.extras.now) c.args.purge)) c.tested.result c.in_ok-draft.draft.changes c.tested.ensures.changes c.tested.ensures.right
-    (λ has. c.in_ok-draft.ensures.draft.changes)
-
-pub returns-clause-applies : goal.returns-clause-applies
-returns-clause-applies c =
-    passed (HasItsMd5s c.in_ok-draft.draft) (λ (changes : List Change). IsTrue (are_applicable c.args.folder.now.files changes)) c.tested.result c.in_ok-draft.draft.changes c.tested.ensures.changes c.tested.ensures.right (λ has. c.in_ok-draft.ensures.draft.applies)
-
 pub returns-clause-leads : goal.returns-clause-leads
 returns-clause-leads c =
     passed (HasItsMd5s c.in_ok-draft.draft) (λ (changes : List Change). effects c.args.folder.now.files changes ≡ after c.args.folder.now.files (Repair c.args.base.now (map string_bytes c.args.extras.now) c.args.purge)) c.tested.result c.in_ok-draft.draft.changes c.tested.ensures.changes
     c.tested.ensures.right (λ has. c.in_ok-draft.ensures.draft.leads)
-
-pub returns-clause-written : goal.returns-clause-written
-returns-clause-written c =
-    passed (HasItsMd5s c.in_ok-draft.draft) (λ _. WritesAsDescribed c.args.folder.now.files c.args.base.now (map string_bytes c.args.extras.now)) c.tested.result c.in_ok-draft.draft.changes c.tested.ensures.changes c.tested.ensures.right c.in_ok-draft.ensures.draft.written
-
-pub returns-clause-few : goal.returns-clause-few
-returns-clause-few c =
-    passed (HasItsMd5s c.in_ok-draft.draft) (λ _. AreFewFor c.args.folder.now.files (Repair c.args.base.now (map string_bytes c.args.extras.now) c.args.purge)) c.tested.result c.in_ok-draft.draft.changes c.tested.ensures.changes c.tested.ensures.right (λ has. c.in_ok-draft.ensures.draft.few)
 
 pub returns-clause-restores : goal.returns-clause-restores
 returns-clause-restores c =

@@ -1,4 +1,4 @@
-use Rattle.par2_repair.proofs.Common.{◌≡◌, ◌∙◌, ◌<◌, ◌+◌, ◌++◌, ◌∷◌, List, ℕ, length, drop, get_or, sym, ap, arith, append-nil, flat_map, drop_all, drop_more, length-append, Pair, is_among, files_of_slices, Target, all-filter}
+use Rattle.par2_repair.proofs.Common.{◌≡◌, ◌∙◌, ◌<◌, ◌+◌, ◌++◌, ◌∷◌, List, ℕ, length, drop, get_or, sym, ap, arith, flat_map, drop_more, length-append, Pair, Target}
 use Rattle.par2_repair.proofs.TargetWalks.{among, target_more}
 use Rattle.par2_repair.proofs.restored_files.restored_files.Goals as goal
 
@@ -30,33 +30,3 @@ loop-target-preserved c =
           ∙ ap (λ us. old ++ among names us (drop first slices)) (sym here) ∙ c.loop-target.invariant.targets names holds;
       long = omega (arith, many, left, c.loop-target.invariant.long);
     }
-
-pub loop-target-init : goal.loop-target-init
-loop-target-init c = record {
-  targets = λ names holds. ap (λ (targets : List (Target × List ℕ)). targets ++ among names c.targets-target-items.result.now c.args.slices.now) c.in_ok-restored.ensures.items;
-  long = omega (arith, ap (λ (ts : List Target). length (pairs_of ts)) c.targets-target-items.ensures.value, c.requires.count);
-}
-
-pub push_among-requires : goal.push_among-requires
-push_among-requires c =
-    let left = pairs_left c.targets-target-items.result.now c.loop-target.target-index c.target-item.result c.loop-target-test.true c.target-item.is in
-    omega (arith, left, c.loop-target.invariant.long)
-
-pub overflow_add-first : goal.overflow_add-first
-overflow_add-first c =
-    let left = pairs_left c.targets-target-items.result.now c.loop-target.target-index c.target-item.result c.loop-target-test.true c.target-item.is in
-    let few = c.targets-target-items.ensures.sound.slices in
-    omega (arith, left, few, c.requires.count, c.loop-target.invariant.long, ap (λ (ps : List Pair). length ps) c.pairs.ensures)
-
-pub returns-clause-lengths : goal.returns-clause-lengths
-returns-clause-lengths c = λ names.
-    let all = c.written_files_have_their_length.ensures c.args.set.now c.args.slices.now c.targets-target-items.ensures.sound c.requires.count c.requires.sizes in
-    all-filter _ (λ t. is_among names t.0.name) (files_of_slices c.args.set.now c.args.slices.now) all
-
-pub returns-clause-targets : goal.returns-clause-targets
-returns-clause-targets c = λ names holds.
-    let slices : List (List ℕ) = c.args.slices.now in
-    let targets : List (Target × List ℕ) = c.loop-target.restored.items in
-    let none = drop_all c.loop-target.target-index c.targets-target-items.result.now c.loop-target-test.false in
-    sym (append-nil targets) ∙ ap (λ (ts : List Target). targets ++ among names ts (drop c.loop-target.first slices)) (sym none)
-    ∙ c.loop-target.invariant.targets names holds ∙ ap (λ (ts : List Target). among names ts slices) c.targets-target-items.ensures.value

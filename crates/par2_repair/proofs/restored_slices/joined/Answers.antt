@@ -1,4 +1,4 @@
-use Rattle.par2_repair.proofs.Common.{◌≡◌, ◌∙◌, ◌++◌, ◌+◌, ◌∷◌, [], List, ℕ, zero, suc, take, refl, sym, ap, concat, take_all, take_more, map-append, padded, slice_bytes, slices_of, Slice}
+use Rattle.par2_repair.proofs.Common.{◌≡◌, ◌∙◌, ◌++◌, ◌+◌, ◌∷◌, [], List, ℕ, take, sym, ap, concat, take_more, map-append, padded, slice_bytes, slices_of, Slice}
 use Rattle.par2_repair.proofs.Cutting.{take-again, concat_push}
 use Rattle.par2_repair.proofs.restored_slices.joined.Goals as goal
 
@@ -19,13 +19,3 @@ loop-slice-preserved c =
     ∙ ap (take size) (sym (concat_push done (padded s (slice_bytes item))))
     ∙ ap (λ xs. take size (concat xs)) (sym (map-append (λ x. padded s (slice_bytes x)) (take i slices) (item ∷ [])))
     ∙ ap (λ xs. take size (concat (slices_of s xs))) (sym more)
-
-pub loop-slice-init : goal.loop-slice-init
-loop-slice-init c = c.in_ok-file.ensures.items ∙ sym (take-nothing c.args.size)
-  where
-    take-nothing : (n : ℕ) → take {A = ℕ} n [] ≡ []
-    take-nothing zero = refl
-    take-nothing (suc n) = refl
-
-pub returns : goal.returns
-returns c = c.loop-slice.invariant ∙ ap (λ xs. take c.args.size (concat (slices_of c.args.slice_size xs))) (take_all c.loop-slice.slice-index c.args.slices.now c.loop-slice-test.false)

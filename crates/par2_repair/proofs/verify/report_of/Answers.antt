@@ -1,10 +1,6 @@
-use Rattle.par2_repair.proofs.Common.{◌≡◌, ◌∙◌, List, ℕ, Ok, sym, ap, ap₂, subst, map, flat_map, filter, is_none, list_any, eq_by_cmp, IsDistinct, bytes_eq, std_from_distinct, IfOk-weaker, candidates, matches, contains, slice_cmp, nat_cmp, filter_agree, found, bytes_of, is_among, names_without_match, Option, Target, HoldsMatches, pair_cmp}
-use Rattle.par2_repair.proofs.Choices.{distinct_once}
+use Rattle.par2_repair.proofs.Common.{◌≡◌, ◌∙◌, List, ℕ, Ok, sym, ap, ap₂, subst, map, flat_map, filter, is_none, list_any, eq_by_cmp, IsDistinct, bytes_eq, IfOk-weaker, candidates, matches, contains, slice_cmp, nat_cmp, filter_agree, found, bytes_of, is_among, names_without_match, Option, Target, HoldsMatches, pair_cmp}
 use Rattle.par2_repair.proofs.ReportValues.{answered, is_sought, once}
 use Rattle.par2_repair.proofs.verify.report_of.Goals as goal
-
-pub matches-requires : goal.matches-requires
-matches-requires c = subst (IsDistinct bytes_eq) (sym (c.deref.ensures.value ∙ c.in_ok-candidates.ensures)) (std_from_distinct _ (distinct_once _))
 
 pub returns : goal.returns
 returns c = λ base reads.
