@@ -1,20 +1,18 @@
 -- Sessions after an accepted action, and after a run of actions.
-use Rattle.par2_journal.proofs.Common.{◌≡◌, ◌≢◌, ℕ, suc, ◌+◌, ◌<◌, ◌≤◌, List, [], ◌∷◌, length, map, get_or, drop, Ok, Err, Result, Bool, true, IsTrue, refl, sym, ap, subst, ◌∙◌, arith, false≢true, IsFalse, IsErr, ◌↔◌, OnOk, is_ok, length-map, drop_all, action_of, Change, Action, Do, Undo, Redo, Command, History, history_after, Execution, Accepted, Passed, MayBeRefused, IsChanging, Refusal, Session, KeptSession, OnlyGrew, CanWalk, session_of_kept, session_with, session_unless, first_entry, history_of, kept_undone, kept_redone, session_after, changes_requested, accepted_next, refused_alike, done_of_kept, undone_of_kept, redone_of_kept, walked_is_valid, same_session, Kind, Changing, Undoing, Redoing, IsKindOf, changes_by_kind, after_commit, next_of, is_valid, LeadsToAfterRequested}
+use Rattle.par2_journal.proofs.Common.{◌≡◌, ◌≢◌, ℕ, suc, ◌+◌, ◌<◌, ◌≤◌, List, [], ◌∷◌, length, map, get_or, drop, Ok, Err, Result, Bool, true, IsTrue, refl, sym, ap, subst, ◌∙◌, arith, false≢true, IsFalse, IsErr, ◌↔◌, OnOk, is_ok, length-map, drop_all, action_of, Change, Action, Do, Undo, Redo, Command, History, history_after, Execution, Accepted, Passed, MayBeRefused, IsChanging, Refusal, Session, KeptSession, OnlyGrew, CanWalk, session_of_kept, session_with, session_unless, first_entry, history_of, kept_done, session_after, changes_requested, accepted_next, refused_alike, done_of_kept, undone_of_kept, redone_of_kept, walked_is_valid, same_session, Next, action_for, entries_for, moved, next_changes, next_of, is_valid, LeadsToAfterRequested}
 use Rattle.par2_spec.specs.declared.commands.Action as given
 use Rattle.par2_spec.specs.History.{NothingToUndo, NothingToRedo}
+use Rattle.par2_journal.specs.declared.ahead.Next.TheVariants as next
 use Rattle.par2_journal.proofs.Entries.{left_at}
 
 -- a prepared command
-pub command_done : (old mid : KeptSession) (command : Command) (kind : Kind) → IsChanging (Do command) → OnlyGrew old mid → IsKindOf (Do command) kind
-    → changes_requested (session_of_kept old) (Do command) ≡ Ok (changes_by_kind kind old)
-    → session_after (session_of_kept old) (Do command) ≡ Ok (session_of_kept (after_commit kind mid))
+pub command_done : (old mid : KeptSession) (command : Command) (changes : List Change) → IsChanging (Do command) → OnlyGrew old mid → changes_requested (session_of_kept old) (Do command) ≡ Ok changes
+    → session_after (session_of_kept old) (Do command) ≡ Ok (session_of_kept (kept_done mid changes))
 unfolding session_after
-command_done old mid command (Changing changes) changing grew is requested =
+command_done old mid command changes changing grew requested =
     ap (session_unless (session_of_kept old) (Do command)) requested
     ∙ ap (λ (s : Session). Ok (session_with s (Do command) changes)) (sym (same_session old mid grew))
     ∙ ap Ok (sym (done_of_kept mid command changes changing))
-command_done old mid command Undoing changing grew is requested = absurd is
-command_done old mid command Redoing changing grew is requested = absurd is
 
 abbrev HasActed : Action → KeptSession → KeptSession → Bool → Type 0
 HasActed action old new acted =
@@ -25,33 +23,29 @@ pub first_is_next : {F : Type 0} (fault : F) (entries : List (List Change)) → 
 first_is_next fault [] some = absurd (some refl)
 first_is_next fault (entry ∷ entries) some = refl
 
-pub undo_done : (s : KeptSession) → s.undos ≢ [] → session_after (session_of_kept s) Undo ≡ Ok (session_of_kept (kept_undone s (next_of s.undos)))
-unfolding session_after changes_requested
-undo_done s some = ap (session_unless (session_of_kept s) Undo) (first_is_next NothingToUndo s.undos some) ∙ ap Ok (sym (undone_of_kept s (next_of s.undos)))
+pub move_requested : (next : Next) (s : KeptSession) → entries_for next s ≢ [] → changes_requested (session_of_kept s) (action_for next) ≡ Ok (next_changes next s)
+unfolding changes_requested
+move_requested next.Undo s some = first_is_next NothingToUndo s.undos some
+move_requested next.Redo s some = first_is_next NothingToRedo s.redos some
 
-pub redo_done : (s : KeptSession) → s.redos ≢ [] → session_after (session_of_kept s) Redo ≡ Ok (session_of_kept (kept_redone s (next_of s.redos)))
-unfolding session_after changes_requested
-redo_done s some = ap (session_unless (session_of_kept s) Redo) (first_is_next NothingToRedo s.redos some) ∙ ap Ok (sym (redone_of_kept s (next_of s.redos)))
+pub move_done : (next : Next) (s : KeptSession) → entries_for next s ≢ [] → session_after (session_of_kept s) (action_for next) ≡ Ok (session_of_kept (moved next s))
+unfolding session_after
+move_done next.Undo s some = ap (session_unless (session_of_kept s) Undo) (move_requested next.Undo s some) ∙ ap Ok (sym (undone_of_kept s (next_of s.undos)))
+move_done next.Redo s some = ap (session_unless (session_of_kept s) Redo) (move_requested next.Redo s some) ∙ ap Ok (sym (redone_of_kept s (next_of s.redos)))
 
 -- an empty side refuses
-pub undo_refused : (s : KeptSession) → s.undos ≡ [] → MayBeRefused (history_of (session_of_kept s)) Undo
+move_refused : (next : Next) (s : KeptSession) → entries_for next s ≡ [] → MayBeRefused (history_of (session_of_kept s)) (action_for next)
 unfolding session_after changes_requested
-undo_refused s none =
+move_refused next.Undo s none =
     subst (λ (r : Result History Refusal). IsErr r) (sym (refused_alike (session_of_kept s) Undo NothingToUndo (ap (λ entries. session_unless (session_of_kept s) Undo (first_entry NothingToUndo entries)) none))) refl
-
-pub redo_refused : (s : KeptSession) → s.redos ≡ [] → MayBeRefused (history_of (session_of_kept s)) Redo
-unfolding session_after changes_requested
-redo_refused s none =
+move_refused next.Redo s none =
     subst (λ (r : Result History Refusal). IsErr r) (sym (refused_alike (session_of_kept s) Redo NothingToRedo (ap (λ entries. session_unless (session_of_kept s) Redo (first_entry NothingToRedo entries)) none))) refl
 
 -- whether it was done or refused
-pub undo_acted : {E : Type 0} (old new : KeptSession) (r : Result (Unit {0}) E) → IsErr r ↔ (old.undos ≡ []) → OnOk r (new ≡ kept_undone old (next_of old.undos)) → HasActed Undo old new (is_ok r)
-undo_acted old new (Ok u) refused undone = (λ _. undo_done old (λ none. false≢true (refused.1 none)) ∙ ap (λ (s : KeptSession). Ok (session_of_kept s)) (sym undone), λ h. absurd (false≢true (sym h)))
-undo_acted old new (Err e) refused undone = (λ h. absurd (false≢true h), λ _. undo_refused old (refused.0 refl))
-
-pub redo_acted : {E : Type 0} (old new : KeptSession) (r : Result (Unit {0}) E) → IsErr r ↔ (old.redos ≡ []) → OnOk r (new ≡ kept_redone old (next_of old.redos)) → HasActed Redo old new (is_ok r)
-redo_acted old new (Ok u) refused redone = (λ _. redo_done old (λ none. false≢true (refused.1 none)) ∙ ap (λ (s : KeptSession). Ok (session_of_kept s)) (sym redone), λ h. absurd (false≢true (sym h)))
-redo_acted old new (Err e) refused redone = (λ h. absurd (false≢true h), λ _. redo_refused old (refused.0 refl))
+pub acted : {E : Type 0} (next : Next) (old new : KeptSession) (r : Result (Unit {0}) E) → IsErr r ↔ (entries_for next old ≡ []) → OnOk r (new ≡ moved next old) → HasActed (action_for next) old new (is_ok r)
+acted next old new (Ok u) refused done =
+    (λ _. move_done next old (λ none. false≢true (refused.1 none)) ∙ ap (λ (s : KeptSession). Ok (session_of_kept s)) (sym done), λ h. absurd (false≢true (sym h)))
+acted next old new (Err e) refused done = (λ h. absurd (false≢true h), λ _. move_refused next old (refused.0 refl))
 
 -- the session's history is the history after the action
 leads_requested : (s t : Session) (action : Action) → is_valid s ≡ true → LeadsToAfterRequested s.folder action → session_after s action ≡ Ok t → history_after (history_of s) action ≡ Ok (history_of t)

@@ -12,15 +12,16 @@ pub use Rattle.std.specs.Prelude.{IfErr, IfOk, IfSome, IsErr, IsErrAnd, IsFalse,
 pub use Rattle.std.specs.Str.{bytes_eq}
 pub use Rattle.std.specs.declared.alloc.Global.{Global}
 pub use Rattle.par2_files.specs.ChangeViews.{change_of}
-pub use Rattle.par2_journal.specs.Ahead.{IsAhead, next_changes}
-pub use Rattle.par2_journal.specs.Along.{AreAlong, ArePrintsAlong, Prints, prints_of}
+pub use Rattle.par2_journal.specs.Ahead.{IsAhead}
 pub use Rattle.par2_journal.specs.Opening.{AnswersOpening, AnswersWhere, IsReportedWhere, OpensAsIs, go_through, session_at}
-pub use Rattle.par2_journal.specs.Ready.{CanBe, Changing, Fits, HasPrintsOf, IsKindOf, IsReady, Kind, Ready, Redoing, Undoing, after_commit, changes_by_kind, next_of}
+pub use Rattle.par2_journal.specs.Ready.{CanBe, Fits, HasPrintsOf, IsReady, action_for, after_commit, changes_by_kind, entries_for, kept_journal, moved, next_changes, next_of, opposite, prints_along}
 pub use Rattle.par2_journal.specs.Sessions.{kept_session}
-pub use Rattle.par2_journal.specs.Spelling.{Add, AreSpelled, HasNext, Replace, SpellsAction, SpellsReady, SpellsHistoryStep, SpellsWhere, HistoryStep, entries_with, halfway_with, settled_with, history_step_of}
+pub use Rattle.par2_journal.specs.Spelling.{CompletesHalfway, SpellsReady, SpellsWhere, halfway_with}
 pub use Rattle.par2_journal.specs.Walks.{AreNamesOf, IsSet, WentForth, names_in}
 pub use Rattle.par2_journal.specs.declared.ahead.Next.{Next}
-pub use Rattle.par2_journal.specs.declared.spelling.Fingerprints.{Fingerprints}
+pub use Rattle.par2_journal.specs.declared.preparation.Kind.{Kind}
+pub use Rattle.par2_journal.specs.declared.preparation.Kind.TheVariants.{Changing, Moving}
+pub use Rattle.par2_journal.specs.declared.preparation.Prepared.{Prepared}
 pub use Rattle.par2_journal_format.specs.JournalViews.{changes_in, halfway_of, journal_from, journal_of}
 pub use Rattle.par2_repair.specs.Drafts.{HasItsMd5s, IsDraft}
 pub use Rattle.par2_repair.specs.declared.draft.Draft.{Draft}
@@ -33,7 +34,7 @@ pub use Rattle.par2_spec.specs.Folders.{Folder, bytes_of, fingerprint, has}
 pub use Rattle.par2_spec.specs.History.{Accepted, Ended, History, IsChanging, MayBeRefused, Passed, Refusal, Execution, history_after}
 pub use Rattle.par2_spec.specs.Journals.{HalfwayPart, Journal, Spells}
 pub use Rattle.par2_spec.specs.Opening.{halfway_where, is_valid, opened_by_part}
-unfoldable pub use Rattle.par2_spec.specs.Opening.{halfway_journal, journals_of, leads, leads_through, settled_journal}
+unfoldable pub use Rattle.par2_spec.specs.Opening.{halfway_journal, leads, leads_through, settled_journal}
 pub use Rattle.par2_spec.specs.Plans.{LeadsToAfterRequested}
 pub use Rattle.par2_spec.specs.Refusals.{after, early_refusal, refusal}
 pub use Rattle.par2_spec.specs.Sessions.{CanWalk, KeptSession, OnlyGrew, Session, changes_unless, first_entry, history_of, others, session_of_kept, session_unless, session_with}

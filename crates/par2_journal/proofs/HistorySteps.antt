@@ -1,10 +1,21 @@
 -- A session before and after the entry at its cursor is replaced by its inverse.
-use Rattle.par2_journal.proofs.Common.{◌≡◌, ℕ, ◌+◌, ◌<◌, ◌≤◌, List, ◌∷◌, length, get_or, set, take, drop, sym, ap, subst, ◌∙◌, true, drop_more, drop-set, reverse, insert, Change, FolderState, takes_all, state_after_all, way_back, KeptSession, CanWalk, others, walks, kept_undone, kept_redone, kept_done, undone_can_walk, redone_can_walk, done_can_walk, next_taken, next_of}
+use Rattle.par2_journal.proofs.Common.{◌≡◌, ◌≢◌, ℕ, zero, suc, inl, inr, [], refl, arith, cases_lt, drop_all, ◌+◌, ◌<◌, ◌≤◌, List, ◌∷◌, length, get_or, set, take, drop, sym, ap, subst, ◌∙◌, true, drop_more, drop-set, reverse, insert, Change, FolderState, takes_all, state_after_all, way_back, KeptSession, CanWalk, others, walks, kept_undone, kept_redone, kept_done, undone_can_walk, redone_can_walk, done_can_walk, next_taken, next_of}
 use Rattle.par2_journal.proofs.Entries.{undos_at, undos_set, undos_more_set, redos_more_set, undos_added, redos_added}
 
 -- the session whose cursor is n
 abbrev pub at : FolderState → List (List Change) → ℕ → ℕ → KeptSession
 at folder xs n room = record { folder = folder; undos = reverse (take n xs); redos = drop n xs; room = room }
+
+-- there is an entry before the cursor if there are undos, and one at it if there are redos
+pub undo_there : (xs : List (List Change)) (n : ℕ) → reverse (take n xs) ≢ [] → 0 < n
+undo_there xs zero some = absurd (some refl)
+undo_there xs (suc n) some = omega arith
+
+pub redo_there : (xs : List (List Change)) (n : ℕ) → drop n xs ≢ [] → n < length xs
+redo_there xs n some = elim (cases_lt n (length xs)) as (λ _. n < length xs) [
+  | inl lt ↦ lt
+  | inr over ↦ absurd (some (drop_all n xs over))
+]
 
 module _ (xs : List (List Change)) (i : ℕ) (within : i < length xs) (entry : List Change) (is : entry ≡ get_or xs i entry) where
   next_undo : reverse (take (i + 1) xs) ≡ entry ∷ reverse (take i xs)

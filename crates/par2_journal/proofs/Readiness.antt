@@ -1,15 +1,16 @@
 -- Actions that a session prepares.
-use Rattle.par2_journal.proofs.Common.{Action, Command, Do, Undo, Redo, Repair, ◌≡◌, ◌≢◌, inl, inr, ℕ, Bool, ◌<◌, ◌≤◌, List, [], ◌∷◌, length, map, None, Some, IsTrue, Result, Ok, Err, true, refl, sym, ap, subst, ◌∙◌, arith, nil_from_length, IfOk, IfErr, IsErrAnd, MatchResult, Change, Write, Rename, Remove, places_taken, are_applicable, effects, FolderState, Folder, LeadsToAfterRequested, KeptSession, OnlyGrew, session_of_kept, changes_unless, first_entry, changes_requested, Step, step_of, takes_applicable, ArePrintsAlong, Prints, Kind, Ready, Changing, Undoing, Redoing, CanBe, Fits, HasPrintsOf, IsKindOf, IsReady, changes_by_kind, next_of, IsChanging, refusal, after, early_refusal, HasItsMd5s, IsDraft, Draft}
+use Rattle.par2_journal.proofs.Common.{Action, Command, Do, Repair, ◌≡◌, ◌≢◌, inl, inr, ℕ, Bool, ◌<◌, ◌≤◌, List, [], ◌∷◌, length, map, None, Some, IsTrue, Result, Ok, Err, true, refl, sym, ap, subst, ◌∙◌, arith, IfOk, IfErr, IsErrAnd, MatchResult, Change, Write, Rename, Remove, places_taken, are_applicable, effects, FolderState, Folder, LeadsToAfterRequested, KeptSession, OnlyGrew, session_of_kept, changes_unless, first_entry, changes_requested, Step, step_of, takes_applicable, Vec, Global, Kind, Prepared, Changing, Moving, CanBe, Fits, HasPrintsOf, IsReady, Next, action_for, after_commit, changes_by_kind, entries_for, next_changes, next_of, prints_along, IsChanging, refusal, after, early_refusal, HasItsMd5s, IsDraft, Draft}
 use Rattle.par2_journal.specs.Commands.{MakesReady, Prepares}
 use Rattle.par2_spec.specs.Changes.{Replace}
 use Rattle.par2_spec.specs.Plans as plans
 use Rattle.par2_spec.specs.History as history
 use Rattle.par2_spec.specs.declared.Fault.{Fault}
 use Rattle.par2_spec.specs.declared.Fault.TheVariants.{Memory, RepairFailed}
-use Rattle.par2_journal.specs.SessionRefusals.{MayFail, MayRefuse}
-use Rattle.par2_journal.proofs.Actions.{command_done, first_is_next, undo_done, redo_done}
+use Rattle.par2_journal.specs.declared.ahead.Next.TheVariants as next
+use Rattle.par2_journal.specs.SessionRefusals.{MayFail, MayRefuse, nothing_for}
+use Rattle.par2_journal.proofs.Actions.{command_done, move_requested, move_done}
 use Rattle.par2_journal.specs.declared.preparation.SessionFault.{SessionFault}
-use Rattle.par2_journal.specs.declared.preparation.SessionFault.TheVariants.{Plan, NothingToUndo, NothingToRedo}
+use Rattle.par2_journal.specs.declared.preparation.SessionFault.TheVariants.{Plan}
 
 -- a fault of the plan is one of the session
 refused_plan : (s : KeptSession) (command : Command) (fault : Fault) → MayFail command s fault → MayRefuse (Do command) s (Plan fault)
@@ -18,9 +19,9 @@ refused_plan s command fault (inl memory) = inl (ap Plan memory)
 refused_plan s command fault (inr cause) = inr (ap (λ r. changes_unless r (plans.changes_of s.folder.files command)) cause)
 
 -- a command's result is its action's
-pub prepares : (made : Result Ready Fault) (r : Result Ready SessionFault) (old new : KeptSession) (command : Command) (action : Action) → action ≡ Do command
+pub prepares : (made : Result Prepared Fault) (r : Result Prepared SessionFault) (old new : KeptSession) (command : Command) (action : Action) → action ≡ Do command
     → MatchResult made (λ ready. r ≡ Ok ready) (λ fault. IsErrAnd r (λ e. e ≡ Plan fault)) → MakesReady command old new made → Prepares action old new r
-prepares (Ok ready) r old new command action requested is made = subst (λ (p : Action × Result Ready SessionFault). Prepares p.0 old new p.1) (λ i. (sym requested i, sym is i)) (record {
+prepares (Ok ready) r old new command action requested is made = subst (λ (p : Action × Result Prepared SessionFault). Prepares p.0 old new p.1) (λ i. (sym requested i, sym is i)) (record {
   kept = made.kept;
   ready = made.ready;
   leads = made.leads;
@@ -64,25 +65,23 @@ leads_requested_by folder command changes are applies leads = λ accepted. (
 -- an accepted command, planned on the folder as it was, whose changes are ready
 module _ (old new : KeptSession) (command : Command) (changes : List Change) (changing : IsChanging (Do command)) (grew : OnlyGrew old new)
     (on : FolderState) (same : on ≡ old.folder) (accepted : refusal on.files command ≡ None) (are : changes ≡ plans.changes_of on.files command) where
-  ready_command : (ready : Ready) → ready.kind ≡ Changing changes → Fits ready new → HasPrintsOf new ready → IsReady (Do command) old ready new
+  ready_command : (ready : Prepared) → ready.kind ≡ Changing changes → Fits ready new → HasPrintsOf new ready → IsReady (Do command) old ready new
   unfolding changes_requested
   ready_command ready is fits prints =
-      let kind : IsKindOf (Do command) ready.kind = subst (IsKindOf (Do command)) (sym is) tt in
-      let requested : changes_requested (session_of_kept old) (Do command) ≡ Ok (changes_by_kind ready.kind old) =
+      let requested : changes_requested (session_of_kept old) (Do command) ≡ Ok changes =
       ap (λ r. changes_unless r (plans.changes_of old.folder.files command)) (subst (λ (f : FolderState). refusal f.files command ≡ None) same accepted)
-      ∙ ap Ok (sym (subst (λ (f : FolderState). changes ≡ plans.changes_of f.files command) same are) ∙ ap (λ k. changes_by_kind k old) (sym is)) in
+      ∙ ap Ok (sym (subst (λ (f : FolderState). changes ≡ plans.changes_of f.files command) same are)) in
       record {
         fits = fits;
         prints = prints;
-        kind = kind;
-        requested = requested;
-        leads = command_done old new command ready.kind changing grew kind requested;
+        requested = requested ∙ ap (λ k. Ok (changes_by_kind k old)) (sym is);
+        leads = command_done old new command changes changing grew requested ∙ ap (λ k. Ok (session_of_kept (after_commit k new))) (sym is);
       }
 
   -- no cause was found before memory was taken
   pub plan_ready : IsTrue (are_applicable on.files changes) → effects on.files changes ≡ after on.files command
       → ((fault : Fault) → early_refusal on.files command ≡ Some fault → ⊥)
-      → (r : Result Ready Fault) → IfOk r (λ ready. ready.kind ≡ Changing changes) → IfOk r (λ ready. Fits ready new) → IfOk r (HasPrintsOf new) → IfErr r (λ fault. fault ≡ Memory)
+      → (r : Result Prepared Fault) → IfOk r (λ ready. ready.kind ≡ Changing changes) → IfOk r (λ ready. Fits ready new) → IfOk r (HasPrintsOf new) → IfErr r (λ fault. fault ≡ Memory)
       → MakesReady command old new r
   plan_ready applies leads early (Ok ready) is fits prints memory = record {
     kept = grew;
@@ -100,21 +99,21 @@ module _ (old new : KeptSession) (command : Command) (changes : List Change) (ch
   }
 
 -- a draft with the described MD5s, and the fingerprints along its changes
-pub draft_ready : (old new : KeptSession) (base : List ℕ) (extras : List (List ℕ)) (purge : Bool) (draft : Draft) (changes : List Change) (steps : List Step) (prints : Prints) → OnlyGrew old new
-    → IsDraft old.folder.files base extras purge draft → HasItsMd5s draft → changes ≡ draft.changes → CanBe (Changing draft.changes) new → steps ≡ map step_of draft.changes → ArePrintsAlong prints new.folder.files draft.changes
+pub draft_ready : (old new : KeptSession) (base : List ℕ) (extras : List (List ℕ)) (purge : Bool) (draft : Draft) (changes : List Change) (steps : List Step) (prints : Vec (List ℕ) Global) → OnlyGrew old new
+    → IsDraft old.folder.files base extras purge draft → HasItsMd5s draft → changes ≡ draft.changes → CanBe (Changing draft.changes) new → steps ≡ map step_of draft.changes → prints.items ≡ prints_along new.folder.files draft.changes
     → ((fault : Fault) → early_refusal old.folder.files (Repair base extras purge) ≡ Some fault → ⊥)
-    → MakesReady (Repair base extras purge) old new (Ok (record { kind = Changing changes; steps = steps; prints = prints }))
+    → MakesReady (Repair base extras purge) old new (Ok (record { kind = Changing changes; steps = steps; fingerprints = prints }))
 draft_ready old new base extras purge draft changes steps prints grew is has same can reported along early =
-    let ready : Ready = record { kind = Changing changes; steps = steps; prints = prints } in
+    let ready : Prepared = record { kind = Changing changes; steps = steps; fingerprints = prints } in
     let fits : Fits ready new = record {
       can = subst (λ (cs : List Change). CanBe (Changing cs) new) (sym same) can;
       steps = reported ∙ ap (map step_of) (sym same);
     } in
     plan_ready old new (Repair base extras purge) changes tt grew old.folder refl (is.accepted has) (same ∙ is.changes) (subst (λ (cs : List Change). IsTrue (are_applicable old.folder.files cs)) (sym same) is.applies)
-    (ap (effects old.folder.files) same ∙ is.leads) early (Ok ready) refl fits (subst (ArePrintsAlong prints new.folder.files) (sym same) along) tt
+    (ap (effects old.folder.files) same ∙ is.leads) early (Ok ready) refl fits (along ∙ ap (prints_along new.folder.files) (sym same)) tt
 
 -- a draft with a wrong MD5 is refused
-pub draft_refused : (r : Result Ready Fault) (old new : KeptSession) (base : List ℕ) (extras : List (List ℕ)) (purge : Bool) (draft : Draft) (fault : Fault) → (y : Fault) × (r ≡ Err y) × (y ≡ fault) → OnlyGrew old new
+pub draft_refused : (r : Result Prepared Fault) (old new : KeptSession) (base : List ℕ) (extras : List (List ℕ)) (purge : Bool) (draft : Draft) (fault : Fault) → (y : Fault) × (r ≡ Err y) × (y ≡ fault) → OnlyGrew old new
     → IsDraft old.folder.files base extras purge draft → ¬ (HasItsMd5s draft) → fault ≡ RepairFailed → ((fault : Fault) → early_refusal old.folder.files (Repair base extras purge) ≡ Some fault → ⊥)
     → MakesReady (Repair base extras purge) old new r
 draft_refused r old new base extras purge draft fault p grew is lacks same early =
@@ -126,37 +125,26 @@ draft_refused r old new base extras purge draft fault p grew is lacks same early
       early = λ fault found. absurd (early fault found);
     })
 
-pub nothing_to_undo : (s : KeptSession) → length s.undos ≡ 0 → MayRefuse Undo s NothingToUndo
+pub nothing_to_move : (next : Next) (s : KeptSession) → entries_for next s ≡ [] → MayRefuse (action_for next) s (nothing_for next)
 unfolding changes_requested
-nothing_to_undo s none = inr (ap (first_entry history.NothingToUndo) (nil_from_length s.undos none))
+nothing_to_move next.Undo s none = inr (ap (first_entry history.NothingToUndo) none)
+nothing_to_move next.Redo s none = inr (ap (first_entry history.NothingToRedo) none)
 
-pub nothing_to_redo : (s : KeptSession) → length s.redos ≡ 0 → MayRefuse Redo s NothingToRedo
-unfolding changes_requested
-nothing_to_redo s none = inr (ap (first_entry history.NothingToRedo) (nil_from_length s.redos none))
-
-pub ready_undo : (s : KeptSession) (steps : List Step) (prints : Prints) → s.undos ≢ [] → steps ≡ map step_of (next_of s.undos) → ArePrintsAlong prints s.folder.files (next_of s.undos) → IsReady Undo s (record { kind = Undoing; steps = steps; prints = prints }) s
-unfolding changes_requested
-ready_undo s steps prints some reported along = record {
+pub ready_move : (next : Next) (s : KeptSession) (steps : List Step) (prints : Vec (List ℕ) Global) → entries_for next s ≢ [] → steps ≡ map step_of (next_changes next s)
+    → prints.items ≡ prints_along s.folder.files (next_changes next s) → IsReady (action_for next) s (record { kind = Moving next; steps = steps; fingerprints = prints }) s
+ready_move next s steps prints some reported along = record {
   fits = record { can = some; steps = reported };
   prints = along;
-  kind = tt;
-  requested = first_is_next history.NothingToUndo s.undos some;
-  leads = undo_done s some;
-}
-
-pub ready_redo : (s : KeptSession) (steps : List Step) (prints : Prints) → s.redos ≢ [] → steps ≡ map step_of (next_of s.redos) → ArePrintsAlong prints s.folder.files (next_of s.redos) → IsReady Redo s (record { kind = Redoing; steps = steps; prints = prints }) s
-unfolding changes_requested
-ready_redo s steps prints some reported along = record {
-  fits = record { can = some; steps = reported };
-  prints = along;
-  kind = tt;
-  requested = first_is_next history.NothingToRedo s.redos some;
-  leads = redo_done s some;
+  requested = move_requested next s some;
+  leads = move_done next s some;
 }
 
 -- ---- what is ready stays so while the session only grows
 
+pub same_entries : (next : Next) (old new : KeptSession) → OnlyGrew old new → entries_for next new ≡ entries_for next old
+same_entries next.Undo old new grew = grew.undos
+same_entries next.Redo old new grew = grew.redos
+
 pub same_changes : (kind : Kind) (old new : KeptSession) → OnlyGrew old new → changes_by_kind kind new ≡ changes_by_kind kind old
 same_changes (Changing changes) old new grew = refl
-same_changes Undoing old new grew = ap next_of grew.undos
-same_changes Redoing old new grew = ap next_of grew.redos
+same_changes (Moving next) old new grew = ap next_of (same_entries next old new grew)

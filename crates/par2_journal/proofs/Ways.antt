@@ -1,5 +1,5 @@
 -- The way back of changes that a kept folder takes.
-use Rattle.par2_journal.proofs.Common.{◌≡◌, ℕ, ◌<◌, true, get_or, set, List, [], ◌∷◌, length, refl, sym, ap, ◌∙◌, length-append, arith, get_or_default, get_or-set_same, set-set, set-get_or, Folder, Change, FolderState, effect, effects, inverse, state_after, takes_all, state_after_all, way_back, state_files, state_all_back, way_back_taken, changes_back, changes_in, WentForth}
+use Rattle.par2_journal.proofs.Common.{◌≡◌, true, List, [], ◌∷◌, length, refl, ap, ◌∙◌, length-append, arith, Folder, Change, FolderState, effect, effects, inverse, state_after, takes_all, state_after_all, way_back, state_files, state_all_back, way_back_taken, changes_back, changes_in, WentForth}
 use Rattle.par2_files.specs.declared.change.Change as given
 
 pub back_length : (s : FolderState) (cs : List Change) → length (way_back s.files cs) ≡ length cs
@@ -17,34 +17,6 @@ back_leads f g cs ds taken moved is = ap (state_after_all g) is ∙ ap (λ s. st
 
 pub back_again : (f g : FolderState) (cs ds : List Change) → takes_all f cs ≡ true → g ≡ state_after_all f cs → ds ≡ way_back f.files cs → way_back g.files ds ≡ cs
 back_again f g cs ds taken moved is = ap (way_back g.files) is ∙ ap (λ (s : FolderState). way_back s.files (way_back f.files cs)) moved ∙ changes_back f cs taken
-
--- ---- the way back of an entry among others
-
-module _ (f g : FolderState) (xs : List (List Change)) (i : ℕ) (within : i < length xs) (d inverted : List Change) (taken : takes_all f (get_or xs i []) ≡ true)
-    (moved : g ≡ state_after_all f (get_or xs i d)) (is : inverted ≡ way_back f.files (get_or xs i d)) where
-  here : (e : List Change) → get_or xs i e ≡ get_or xs i d
-  here e = get_or_default xs i e d within
-
-  there : (e : List Change) → get_or (set xs i inverted) i e ≡ inverted
-  there e = get_or-set_same xs i inverted e within
-
-  taken_here : takes_all f (get_or xs i d) ≡ true
-  taken_here = ap (takes_all f) (sym (here [])) ∙ taken
-
-  pub entry_length : (e : List Change) → length (get_or (set xs i inverted) i e) ≡ length (get_or xs i [])
-  entry_length e = ap length (there e) ∙ ap length is ∙ back_length f (get_or xs i d) ∙ ap length (sym (here []))
-
-  pub entry_taken : (e : List Change) → takes_all g (get_or (set xs i inverted) i e) ≡ true
-  entry_taken e = ap (takes_all g) (there e) ∙ back_taken f g (get_or xs i d) inverted taken_here moved is
-
-  pub entry_leads : (e : List Change) → state_after_all g (get_or (set xs i inverted) i e) ≡ f
-  entry_leads e = ap (state_after_all g) (there e) ∙ back_leads f g (get_or xs i d) inverted taken_here moved is
-
-  pub entry_again : (e again : List Change) → again ≡ way_back g.files (get_or (set xs i inverted) i e) → set (set xs i inverted) i again ≡ xs
-  entry_again e again back =
-      set-set xs i inverted again
-      ∙ ap (set xs i) (back ∙ ap (way_back g.files) (there e) ∙ back_again f g (get_or xs i d) inverted taken_here moved is)
-      ∙ set-get_or xs i d
 
 -- ---- changes that led to a folder, and can lead back
 

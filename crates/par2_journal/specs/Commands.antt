@@ -15,8 +15,9 @@ use Rattle.par2_spec.specs.declared.Fault.TheVariants.{Memory}
 use Rattle.par2_repair.specs.Repairing.{WritesAsDescribed}
 use Rattle.par2_repair.specs.ReportViews.{report_view}
 use Rattle.par2_repair.specs.declared.report.Report.{Report}
-use Rattle.par2_journal.specs.Ready.{Ready, IsReady, next_of}
+use Rattle.par2_journal.specs.Ready.{IsReady, next_of}
 use Rattle.par2_journal.specs.SessionRefusals.{MayFail, MayRefuse}
+use Rattle.par2_journal.specs.declared.preparation.Prepared.{Prepared}
 use Rattle.par2_journal.specs.declared.preparation.SessionFault.{SessionFault}
 use Rattle.par2_journal.specs.declared.preparation.SessionFault.TheVariants.{Plan, NothingToUndo, NothingToRedo}
 
@@ -27,18 +28,18 @@ kept_history s = history_of (session_of_kept s)
 -- ---- prepared actions
 
 -- a command is prepared or refused. Either way the session only gets more room
-pub record MakesReady (command : Command) (old new : KeptSession) (result : Result Ready Fault) : Type 0 where
+pub record MakesReady (command : Command) (old new : KeptSession) (result : Result Prepared Fault) : Type 0 where
   pub kept : OnlyGrew old new
-  pub ready : IfOk result (λ ready. IsReady (Do command) old ready new)
+  pub ready : IfOk result (λ prepared. IsReady (Do command) old prepared new)
   pub leads : OnOk result (LeadsToAfterRequested old.folder.files (Do command))
   pub refused : IfErr result (MayFail command old)
   -- a cause that is found before memory is taken is never reported as out of memory
   pub early : (fault : Fault) → early_refusal old.folder.files command ≡ Some fault → IsErrOf result fault
 
 -- an action is prepared or refused. Either way the session only gets more room
-pub record Prepares (action : Action) (old new : KeptSession) (result : Result Ready SessionFault) : Type 0 where
+pub record Prepares (action : Action) (old new : KeptSession) (result : Result Prepared SessionFault) : Type 0 where
   pub kept : OnlyGrew old new
-  pub ready : IfOk result (λ ready. IsReady action old ready new)
+  pub ready : IfOk result (λ prepared. IsReady action old prepared new)
   pub leads : OnOk result (LeadsToAfterRequested old.folder.files action)
   pub refused : IfErr result (MayRefuse action old)
   -- a cause that is found before memory is taken is never reported as out of memory

@@ -1,7 +1,5 @@
 pub mod StepViews
-pub mod Along
 pub mod Ready
-pub mod Kinds
 pub mod Ahead
 pub mod Sessions
 pub mod SessionRefusals

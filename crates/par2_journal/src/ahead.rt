@@ -1,12 +1,7 @@
 //! What an opening computes for the next action: fingerprints along an undo or redo, or checkpoints from
 //! which those of a command are computed.
-ghost use Rattle.std.specs.Prelude.{◌≡◌, is_some, IfSome, IsTrue, Some};
-ghost use Rattle.par2_files.specs.declared.checkpoints.Checkpoints.{Checkpoints as Includes};
-ghost use Rattle.par2_journal.specs.declared.spelling.Fingerprints.{Fingerprints as Prints};
-ghost use Rattle.par2_journal.specs.Ahead.{AreFor, AreIn};
-
-use crate::spelling::Fingerprints;
 use par2_files::Checkpoints;
+use std::alloc::Global;
 
 /// The action that comes next, for which an opening computes fingerprints.
 #[derive(Clone, Copy, PartialEq, Eq)]
@@ -15,35 +10,41 @@ pub enum Next {
     Redo,
 }
 
-/// What an opening computed for the next action.
-#[derive(Drop)]
-pub enum Ahead {
-    /// The fingerprints along the changes of the next undo or redo.
-    Fingerprints(Next, Fingerprints),
-    /// MD5 states from which fingerprints along other changes are computed.
-    Checkpoints(Checkpoints),
-}
+impl Next {
+    ghost use Rattle.std.specs.Prelude.{◌≡◌};
+    ghost use Rattle.par2_journal.specs.Ready.{opposite};
 
-// The fingerprints that an opening computed, if it did so for this action: an undo after an opening for a redo has
-// none.
-pub(crate) fn fingerprints_for(found: Option<Ahead>, next: Next) -> Option<Fingerprints>
-    ensures known { IfSome result (AreFor found next) }
-    ensures used { (prints : Prints) → AreFor found next prints → result ≡ Some prints }
-{
-    match found {
-        Some(Ahead::Fingerprints(of, fingerprints)) => (of == next).then_some(fingerprints),
-        _ => None,
+    // The one that takes it back.
+    pub(crate) fn opposite(self) -> Next
+        ensures { result ≡ opposite self }
+    {
+        match self {
+            Next::Undo => Next::Redo,
+            Next::Redo => Next::Undo,
+        }
     }
 }
 
-// The checkpoints that an opening computed, if any. Later fingerprints are computed from them.
-pub(crate) fn checkpoints_in(found: &Option<Ahead>) -> Option<&Checkpoints>
-    ensures known { IfSome result (λ checkpoints. AreIn found.now checkpoints.now) }
-    ensures used { (checkpoints : Includes) → AreIn found.now checkpoints
-        → IsTrue (is_some result) }
-{
-    match found {
-        Some(Ahead::Checkpoints(checkpoints)) => Some(checkpoints),
-        _ => None,
+/// What an opening computed for the next action.
+#[derive(Drop)]
+pub struct Ahead {
+    /// MD5 states from which the fingerprints along changes are computed.
+    pub checkpoints: Checkpoints,
+    /// The fingerprints before the changes of the next undo or redo, and after each.
+    pub along: Option<(Next, Vec<[u8; 16]>)>,
+}
+
+impl Ahead {
+    ghost use Rattle.par2_spec.specs.Sessions.{KeptSession};
+    ghost use Rattle.par2_journal.specs.Ahead.{IsAhead};
+
+    // Nothing was computed, or no longer fits the session.
+    pub(crate) fn none(alloc: Global) -> Ahead
+        ensures { (session : KeptSession) → IsAhead result session }
+    {
+        Ahead {
+            checkpoints: Checkpoints::none(alloc),
+            along: None,
+        }
     }
 }

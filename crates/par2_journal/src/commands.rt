@@ -1,6 +1,6 @@
 //! The actions of a session. `prepare` plans a command and reserves its memory, or finds the entry of an undo or redo,
 //! so that it can be committed. `create`, `repair` and `purge` do both at once, and `play` does a list of actions.
-use crate::preparation::Task;
+use crate::preparation::Kind;
 use crate::{Changes, CreateArgs, Next, Prepared, Session, SessionFault, Steps};
 use par2_create::plan_create;
 use par2_files::Checkpoints;
@@ -20,10 +20,11 @@ impl Session {
     ghost use Rattle.par2_spec.specs.Output.{step_of};
     ghost use Rattle.par2_spec.specs.Views.{action_of, create_args_of};
     ghost use Rattle.par2_files.specs.Checkpoints.{AreCheckpointsOf};
-    ghost use Rattle.par2_laws.specs.Answers.{LeavesEachFile, RestoresFiles, RestoresInputs, folder_left};
+    ghost use Rattle.par2_spec.specs.RepairLaws.{LeavesEachFile, RestoresFiles, RestoresInputs, folder_left};
     ghost use Rattle.par2_journal.specs.Commands.{IsAfter, LeadsFrom, MakesReady, MayBePassed, Performs, Prepares, UndosGiveBack, Verifies, WritesFiles, kept_history, repair_of};
-    ghost use Rattle.par2_journal.specs.SessionRefusals.{MayRefuse};
-    ghost use Rattle.par2_journal.specs.Ready.{CanBe, Changing, Fits, HasPrintsOf, IsReady};
+    ghost use Rattle.par2_journal.specs.SessionRefusals.{MayRefuse, nothing_for};
+    ghost use Rattle.par2_journal.specs.Ready.{CanBe, Fits, HasPrintsOf, IsReady, action_for, entries_for};
+    ghost use Rattle.par2_journal.specs.declared.preparation.Kind.TheVariants.{Changing};
 
     // The steps of a planned command, which a run prints, and room in the session for its files and its entry. Err if
     // memory runs out. `CanBe`: the changes can be applied, and there is room for the entry.
@@ -59,10 +60,10 @@ impl Session {
         ensures refused { IfErr result (λ fault. fault ≡ Fault.Memory) }
     {
         let steps = self.make_way(&changes)?;
-        let fingerprints = self.fingerprints_along(from, &changes)?;
-        let task = Task::Change(changes);
+        let fingerprints = self.digests(changes.as_slice(), from, &[])?.along;
+        let kind = Kind::Changing(changes);
         Ok(Prepared {
-            task,
+            kind,
             steps,
             fingerprints,
         })
@@ -75,8 +76,7 @@ impl Session {
         ensures { MakesReady (Create (create_args_of args.now)) self.old self.new result }
     {
         let alloc = self.allocator();
-        let none = Checkpoints::none(alloc);
-        let plan = plan_create(alloc, self.folder(), args, self.checkpoints_or(&none))?;
+        let plan = plan_create(alloc, self.folder(), args, self.checkpoints())?;
         self.prepare_changes(plan.changes, Some(&plan.checkpoints))
     }
 
@@ -91,13 +91,14 @@ impl Session {
         ensures ready { MakesReady (repair_of base.now extras.now purge) self.old self.new result }
         ensures written { WritesFiles base.now extras.now purge self.old result }
     {
-        let draft = draft_repair(self.allocator(), self.folder(), base, extras, purge)?;
+        let alloc = self.allocator();
+        let draft = draft_repair(alloc, self.folder(), base, extras, purge)?;
         let steps = self.make_way(&draft.changes)?;
-        let (fingerprints, md5s) = self.digests_along(&draft)?;
-        let changes = draft.tested(&md5s)?;
-        let task = Task::Change(changes);
+        let found = self.digests(draft.changes.as_slice(), None, &draft.buffers(alloc)?)?;
+        let kind = Kind::Changing(draft.tested(&found.beside)?);
+        let fingerprints = found.along;
         Ok(Prepared {
-            task,
+            kind,
             steps,
             fingerprints,
         })
@@ -111,43 +112,24 @@ impl Session {
         self.prepare_changes(changes, None)
     }
 
-    // Makes an undo of the newest command ready to be committed. It is refused if there is nothing to undo, or if
-    // memory runs out.
-    fn prepare_undo(&mut self) -> Result<Prepared, SessionFault>
+    // Makes an undo of the newest command, or a redo of the command undone last, ready to be committed. It is refused if
+    // there is nothing to undo or redo, or if memory runs out.
+    fn prepare_move(&mut self, next: Next) -> Result<Prepared, SessionFault>
         ensures unchanged { self.new ≡ self.old }
-        ensures ready { IfOk result (λ prepared. IsReady Undo self.old prepared self.old) }
-        ensures refused { IfErr result (MayRefuse Undo self.old) }
-        ensures at_the_end { self.old.undos ≡ [] → IsErrOf result SessionFault.NothingToUndo }
+        ensures ready { IfOk result
+            (λ prepared. IsReady (action_for next) self.old prepared self.old) }
+        ensures refused { IfErr result (MayRefuse (action_for next) self.old) }
+        ensures at_the_end { entries_for next self.old ≡ []
+            → IsErrOf result (nothing_for next) }
     {
-        if self.undo_depth() == 0 {
-            return Err(SessionFault::NothingToUndo);
-        }
-        let steps = Steps::of(self.allocator(), self.next_undo())?;
-        let fingerprints = self.fingerprints_next(Next::Undo)?;
-        let task = Task::Undo;
+        let Some(entry) = self.next_entry(next) else {
+            return Err(SessionFault::from(next));
+        };
+        let steps = Steps::of(self.allocator(), entry.as_slice())?;
+        let fingerprints = self.fingerprints_next(next)?;
+        let kind = Kind::Moving(next);
         Ok(Prepared {
-            task,
-            steps,
-            fingerprints,
-        })
-    }
-
-    // Makes a redo of the command undone last ready to be committed. It is refused if there is nothing to redo, or if
-    // memory runs out.
-    fn prepare_redo(&mut self) -> Result<Prepared, SessionFault>
-        ensures unchanged { self.new ≡ self.old }
-        ensures ready { IfOk result (λ prepared. IsReady Redo self.old prepared self.old) }
-        ensures refused { IfErr result (MayRefuse Redo self.old) }
-        ensures at_the_end { self.old.redos ≡ [] → IsErrOf result SessionFault.NothingToRedo }
-    {
-        if self.redo_depth() == 0 {
-            return Err(SessionFault::NothingToRedo);
-        }
-        let steps = Steps::of(self.allocator(), self.next_redo())?;
-        let fingerprints = self.fingerprints_next(Next::Redo)?;
-        let task = Task::Redo;
-        Ok(Prepared {
-            task,
+            kind,
             steps,
             fingerprints,
         })
@@ -168,8 +150,8 @@ impl Session {
                 prepared.map_err(SessionFault::Plan)
             }
             Action::Purge { base } => self.prepare_purge(base).map_err(SessionFault::Plan),
-            Action::Undo => self.prepare_undo(),
-            Action::Redo => self.prepare_redo(),
+            Action::Undo => self.prepare_move(Next::Undo),
+            Action::Redo => self.prepare_move(Next::Redo),
         }
     }
 

@@ -1,6 +1,6 @@
 //! Prepared actions, and their steps. `Session::prepare` makes a `Prepared`, the journals are spelled from it, and
 //! `Session::commit` consumes it and returns its steps.
-use crate::spelling::Fingerprints;
+use crate::Next;
 use par2_files::{Change, Name};
 use par2_repair::{Changes, Fault};
 use par2_spec::Result;
@@ -121,32 +121,35 @@ impl From<AllocError> for SessionFault {
     }
 }
 
-// The task of a prepared action: a command's own changes, or those of the next entry.
-#[derive(Drop)]
-pub enum Task {
-    Change(Changes),
-    Undo,
-    Redo,
+impl From<Next> for SessionFault {
+    ghost use Rattle.std.specs.Prelude.{◌≡◌};
+    ghost use Rattle.par2_journal.specs.SessionRefusals.{nothing_for};
+
+    ghost from_gives = { λ next refused. refused ≡ nothing_for next };
+
+    // For an undo or redo without an entry.
+    fn from(next: Next) -> Self {
+        match next {
+            Next::Undo => SessionFault::NothingToUndo,
+            Next::Redo => SessionFault::NothingToRedo,
+        }
+    }
 }
 
-/// An action that can be committed: what it does, and its steps.
+// What committing an action does: it applies a command's own changes, or those of the next entry.
+#[derive(Drop)]
+pub enum Kind {
+    Changing(Changes),
+    Moving(Next),
+}
+
+/// An action that can be committed.
 #[derive(Drop)]
 pub struct Prepared {
-    pub(crate) task: Task,
+    pub(crate) kind: Kind,
     pub(crate) steps: Steps,
-    // The fingerprints along its changes, for its journals.
-    pub(crate) fingerprints: Fingerprints,
-}
-
-impl Model for Prepared {
-    ghost use Rattle.par2_journal.specs.Ready.{Ready, ready_code};
-    ghost use Rattle.par2_journal.specs.Kinds.{ready_of};
-
-    ghost Value = { Ready };
-
-    ghost coded = { ready_code };
-
-    ghost view = { ready_of };
+    // The folder's fingerprints before its changes and after each, for its journals.
+    pub(crate) fingerprints: Vec<[u8; 16]>,
 }
 
 impl Prepared {

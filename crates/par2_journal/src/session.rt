@@ -1,15 +1,17 @@
 //! One folder, the changes that lead back, and those that lead forward again. A run opens a session (opening.rt),
 //! prepares an action (commands.rt), spells its `journals`, writes `changes`, and calls `commit`.
-use crate::ahead::{Ahead, checkpoints_in, fingerprints_for};
-use crate::preparation::Task;
-use crate::spelling::{Fingerprints, settled, spell_command, spell_entry};
+use crate::ahead::Ahead;
+use crate::preparation::Kind;
+use crate::spelling::both;
 use crate::{Changes, Journals, Next, Prepared, Steps};
-use par2_files::{Change, Checkpoints, Folder, fingerprint_with_checkpoints};
-use par2_journal_format::encode;
-use par2_repair::Draft;
+use par2_files::{
+    Change, Checkpoints, Digests, Folder, fingerprint_with_checkpoints, fingerprints,
+};
+use par2_journal_format::{JournalView, begin, encode};
 use par2_spec::Result;
 use std::alloc::Global;
 use std::marker::Model;
+use std::slice::from_ref;
 use thiserror::Error;
 
 /// There is no command to undo.
@@ -31,14 +33,13 @@ pub struct SessionDigests {
 }
 
 /// A session on a folder: the folder, and a list of entries with a cursor. Entries before the cursor are stored as
-/// undos apply them, the others as redos do. `ahead` has the fingerprints or checkpoints that its opening computed for
-/// the next action.
+/// undos apply them, the others as redos do. `ahead` has what its opening computed for the next action.
 #[derive(Drop)]
 pub struct Session {
     folder: Folder,
     entries: Vec<Changes>,
     cursor: usize,
-    ahead: Option<Ahead>,
+    ahead: Ahead,
 }
 
 impl Model for Session {
@@ -57,22 +58,21 @@ impl Model for Session {
 }
 
 impl Session {
-    ghost use Rattle.std.specs.Prelude.{◌≡◌, ◌↔◌, ◌<◌, ◌≤◌, ◌≢◌, [], map, length, IsErr, IfOk, IfSome, OnOk, OnErr, IsTrue};
+    ghost use Rattle.std.specs.Prelude.{◌≡◌, ◌↔◌, ◌<◌, ◌≤◌, ◌+◌, ◌≢◌, [], map, length, IsErr, IfOk, IfSome, OnOk, OnErr, IsTrue, None};
     ghost use Rattle.md5.specs.Md5.{md5};
+    ghost use Rattle.par2_md5_lanes.specs.Buffers.{buffers_of};
     ghost use Rattle.par2_spec.specs.Changes.{takes_all};
     ghost use Rattle.par2_spec.specs.Folders.{fingerprint};
     ghost use Rattle.par2_spec.specs.Sessions.{CanWalk, OnlyGrew, session_of_kept, kept_done, kept_undone, kept_redone};
     ghost use Rattle.par2_spec.specs.Journals.{Spells};
     ghost use Rattle.par2_files.specs.Checkpoints.{AreCheckpointsOf};
     ghost use Rattle.par2_files.specs.ChangeViews.{change_of};
-    ghost use Rattle.par2_repair.specs.Written.{buffers_written};
-    ghost use Rattle.par2_journal.specs.Ahead.{next_changes};
-    ghost use Rattle.par2_journal.specs.Along.{AreAlong};
-    ghost use Rattle.par2_journal.specs.Kinds.{task_kind};
+    ghost use Rattle.par2_journal_format.specs.JournalViews.{journal_from};
     ghost use Rattle.par2_journal.specs.Opening.{session_at};
-    ghost use Rattle.par2_journal.specs.Ready.{CanBe, Fits, HasPrintsOf, changes_by_kind, after_commit, kept_journal, next_of};
-    ghost use Rattle.par2_journal.specs.Spelling.{SpellsAction, SpellsReady};
+    ghost use Rattle.par2_journal.specs.Ready.{CanBe, Fits, HasPrintsOf, after_commit, changes_by_kind, entries_for, kept_journal, moved, next_changes, next_of, prints_along};
+    ghost use Rattle.par2_journal.specs.Spelling.{SpellsReady};
     ghost use Rattle.par2_journal.specs.Walks.{EntriesWalk};
+    ghost use Rattle.par2_journal.specs.declared.preparation.Kind.TheVariants.{Changing, Moving};
 
     /// A session on this folder, without a history: there is no journal, or its history is dropped or not needed.
     pub fn new(alloc: Global, folder: Folder) -> Session
@@ -84,7 +84,7 @@ impl Session {
             folder,
             entries: Vec::new(alloc),
             cursor: 0,
-            ahead: None,
+            ahead: Ahead::none(alloc),
         }
     }
 
@@ -96,11 +96,12 @@ impl Session {
         requires walks { EntriesWalk folder cursor entries.items }
         ensures { session_of_kept result ≡ session_at folder.files cursor entries.items }
     {
+        let ahead = Ahead::none(*entries.allocator());
         Session {
             folder,
             entries,
             cursor,
-            ahead: None,
+            ahead,
         }
     }
 
@@ -138,6 +139,24 @@ impl Session {
         self.entries.len() - self.cursor
     }
 
+    // Undoes or redoes the next entry: its changes are applied, and their inverse becomes the next one of the other side.
+    fn go(&mut self, next: Next)
+        requires { entries_for next self.old ≢ [] }
+        ensures { self.new ≡ moved next self.old }
+    {
+        self.ahead = Ahead::none(self.allocator());
+        match next {
+            Next::Undo => {
+                self.cursor -= 1;
+                self.entries[self.cursor].apply_and_invert(&mut self.folder);
+            }
+            Next::Redo => {
+                self.entries[self.cursor].apply_and_invert(&mut self.folder);
+                self.cursor += 1;
+            }
+        }
+    }
+
     /// Undoes the newest command on the folder in memory. It allocates nothing. `kept_undone`: the entry's changes are
     /// applied, and their inverse becomes the next redo.
     pub fn undo(&mut self) -> Result<(), NothingToUndo>
@@ -145,14 +164,10 @@ impl Session {
         ensures unchanged { OnErr result (self.new ≡ self.old) }
         ensures undone { OnOk result (self.new ≡ kept_undone self.old (next_of self.old.undos)) }
     {
-        if self.cursor == 0 {
+        if self.undo_depth() == 0 {
             return Err(NothingToUndo);
         }
-        let at = self.cursor - 1;
-        self.ahead = None;
-        let entry = &mut self.entries[at];
-        entry.apply_and_invert(&mut self.folder);
-        self.cursor = at;
+        self.go(Next::Undo);
         Ok(())
     }
 
@@ -163,15 +178,25 @@ impl Session {
         ensures unchanged { OnErr result (self.new ≡ self.old) }
         ensures redone { OnOk result (self.new ≡ kept_redone self.old (next_of self.old.redos)) }
     {
-        let at = self.cursor;
-        if at == self.entries.len() {
+        if self.redo_depth() == 0 {
             return Err(NothingToRedo);
         }
-        self.ahead = None;
-        let entry = &mut self.entries[at];
-        entry.apply_and_invert(&mut self.folder);
-        self.cursor = at + 1;
+        self.go(Next::Redo);
         Ok(())
+    }
+
+    // The parts of the settled journal, with the folder's fingerprint.
+    fn parts(&self, print: [u8; 16]) -> JournalView<'_>
+        ensures journal { print ≡ fingerprint self.now.folder.files
+            → journal_from result ≡ kept_journal self.now }
+        ensures cursor { result.cursor ≤ length result.entries.now + length result.newer.now }
+    {
+        JournalView {
+            fingerprint: print,
+            cursor: self.cursor,
+            entries: &self.entries,
+            newer: &[],
+        }
     }
 
     /// The bytes of the session's settled journal. A run writes it only after taking back a halfway command; the
@@ -179,9 +204,7 @@ impl Session {
     pub fn encode(&self) -> Result<Vec<u8>>
         ensures { IfOk result (λ bytes. Spells bytes.items (kept_journal self.now)) }
     {
-        let fingerprint = self.folder.fingerprint()?;
-        let parts = settled(fingerprint, self.cursor, &self.entries, &[]);
-        encode(self.allocator(), &parts)
+        encode(self.allocator(), &self.parts(self.folder.fingerprint()?))
     }
 
     // Reserves room for `files` more files and one more entry, so that a commit allocates nothing. `OnlyGrew`: nothing
@@ -202,7 +225,7 @@ impl Session {
         requires room { 0 < self.old.room }
         ensures { self.new ≡ kept_done self.old changes }
     {
-        self.ahead = None;
+        self.ahead = Ahead::none(self.allocator());
         changes.apply_and_invert(&mut self.folder);
         self.entries.truncate(self.cursor);
         // For the prover: `insert` keeps the capacity, and `push` only says that it doesn't shrink.
@@ -213,41 +236,33 @@ impl Session {
         self.cursor += 1;
     }
 
-    // The changes that the next undo applies, in order. `next_of`: the first entry of the list.
-    pub(crate) fn next_undo(&self) -> &[Change]
-        requires { self.now.undos ≢ [] }
-        ensures { map change_of result.now ≡ next_of self.now.undos }
-    {
-        self.entries[self.cursor - 1].as_slice()
-    }
-
-    // The changes that the next redo applies, in order. `next_of`: the first entry of the list.
-    pub(crate) fn next_redo(&self) -> &[Change]
-        requires { self.now.redos ≢ [] }
-        ensures { map change_of result.now ≡ next_of self.now.redos }
-    {
-        self.entries[self.cursor].as_slice()
-    }
-
-    // The changes that the next undo or redo applies, or none if there is none, for `digests_ahead`.
-    fn next_changes(&self, next: Next) -> &[Change]
-        ensures { map change_of result.now ≡ next_changes next self.now }
+    // The entry that the next undo or redo applies, if there is one.
+    pub(crate) fn next_entry(&self, next: Next) -> Option<&Changes>
+        ensures none { result ≡ None → entries_for next self.now ≡ [] }
+        ensures some { IfSome result (λ entry. entries_for next self.now ≢ []) }
+        ensures entry { IfSome result (λ entry. entry.now ≡ next_changes next self.now) }
     {
         match next {
-            Next::Undo if self.undo_depth() == 0 => &[],
-            Next::Undo => self.next_undo(),
-            Next::Redo if self.redo_depth() == 0 => &[],
-            Next::Redo => self.next_redo(),
+            Next::Undo => self.entries[..self.cursor].last(),
+            Next::Redo => self.entries.get(self.cursor),
         }
     }
 
-    // The folder's checkpoints if an opening kept them, otherwise `none`, for a create, which digests the folder from
-    // them.
-    pub(crate) fn checkpoints_or<'a>(&'a self, none: &'a Checkpoints) -> &'a Checkpoints
-        requires { AreCheckpointsOf self.now.folder.files none.now }
+    // The changes that the next undo or redo applies, or none if there is none.
+    fn next_changes(&self, next: Next) -> &[Change]
+        ensures { map change_of result.now ≡ next_changes next self.now }
+    {
+        match self.next_entry(next) {
+            Some(entry) => entry.as_slice(),
+            None => &[],
+        }
+    }
+
+    // The folder's checkpoints that an opening computed, if any, for a create, which digests the folder from them.
+    pub(crate) fn checkpoints(&self) -> &Checkpoints
         ensures { AreCheckpointsOf self.now.folder.files result.now }
     {
-        checkpoints_in(&self.ahead).unwrap_or(none)
+        &self.ahead.checkpoints
     }
 
     // Digests the folder and `bytes`, the journal's body, side by side for an opening, and keeps checkpoints for the
@@ -259,7 +274,7 @@ impl Session {
     {
         let found = fingerprint_with_checkpoints(self.allocator(), &self.folder, bytes)?;
         let (folder, bytes) = (found.fingerprint, found.digest);
-        self.ahead = Some(Ahead::Checkpoints(found.checkpoints));
+        self.ahead.checkpoints = found.checkpoints;
         Ok(SessionDigests { folder, bytes })
     }
 
@@ -271,54 +286,42 @@ impl Session {
         ensures folder { IfOk result (λ x. x.folder ≡ fingerprint self.old.folder.files) }
         ensures bytes { IfOk result (λ x. x.bytes ≡ md5 bytes.now) }
     {
-        let alloc = self.allocator();
-        let changes = self.next_changes(next);
-        let folder = self.folder();
-        let (prints, digests) = Fingerprints::and_digests(alloc, None, folder, changes, &[bytes])?;
-        let (folder, bytes) = (prints.before, digests[0]);
-        self.ahead = Some(Ahead::Fingerprints(next, prints));
+        let found = self.digests(self.next_changes(next), None, &[bytes])?;
+        let (folder, bytes) = (found.along[0], found.beside[0]);
+        self.ahead.along = Some((next, found.along));
         Ok(SessionDigests { folder, bytes })
     }
 
-    // The fingerprints along changes that were planned on the folder, from the checkpoints `from`, or else from those of
-    // an opening, if any.
-    pub(crate) fn fingerprints_along(
+    // The fingerprints before changes to the folder and after each, and the MD5s of buffers, all computed side by side:
+    // from the checkpoints `from`, or else from those of an opening, if any.
+    pub(crate) fn digests(
         &self,
+        changes: &[Change],
         from: Option<&Checkpoints>,
-        changes: &Changes,
-    ) -> Result<Fingerprints>
+        beside: &[&[u8]],
+    ) -> Result<Digests>
         requires checkpoints { IfSome from
             (λ from. AreCheckpointsOf self.now.folder.files from.now) }
-        requires applies { IsTrue (takes_all self.now.folder changes.now) }
-        ensures { IfOk result (AreAlong self.now.folder.files changes.now) }
+        requires applies { IsTrue (takes_all self.now.folder (map change_of changes.now)) }
+        ensures along { IfOk result (λ found. found.along.items
+            ≡ prints_along self.now.folder.files (map change_of changes.now)) }
+        ensures beside { IfOk result (λ found. found.beside.items ≡ map md5 (buffers_of beside.now)) }
     {
-        let from = from.or(checkpoints_in(&self.ahead));
-        Fingerprints::of(self.allocator(), from, &self.folder, changes.as_slice())
+        let from = from.unwrap_or(&self.ahead.checkpoints);
+        fingerprints(self.allocator(), &self.folder, changes, from, beside)
     }
 
     // The fingerprints along the changes of the next undo or redo, or of none if there is none. Those that an opening
     // computed for it are used once.
-    pub(crate) fn fingerprints_next(&mut self, next: Next) -> Result<Fingerprints>
+    pub(crate) fn fingerprints_next(&mut self, next: Next) -> Result<Vec<[u8; 16]>>
         ensures unchanged { self.new ≡ self.old }
-        ensures along { IfOk result (AreAlong self.old.folder.files (next_changes next self.old)) }
+        ensures along { IfOk result (λ along. along.items
+            ≡ prints_along self.old.folder.files (next_changes next self.old)) }
     {
-        let known = fingerprints_for(self.ahead.take(), next);
-        let folder = self.folder();
-        Fingerprints::known_or_of(self.allocator(), known, folder, self.next_changes(next))
-    }
-
-    // For a repair: the fingerprints along the draft's changes, computed side by side with the MD5s of the files that
-    // the draft writes. `AreAlong`: the fingerprints are those before the changes, after each and after all.
-    pub(crate) fn digests_along(&self, draft: &Draft) -> Result<(Fingerprints, Vec<[u8; 16]>)>
-        requires { IsTrue (takes_all self.now.folder draft.now.changes) }
-        ensures along { IfOk result (λ x. AreAlong self.now.folder.files draft.now.changes x.0) }
-        ensures md5s { IfOk result (λ x. x.1.items ≡ map md5 (buffers_written draft.now.changes)) }
-    {
-        let alloc = self.allocator();
-        let buffers = draft.buffers(alloc)?;
-        let changes = draft.changes.as_slice();
-        let checkpoints = checkpoints_in(&self.ahead);
-        Fingerprints::and_digests(alloc, checkpoints, &self.folder, changes, &buffers)
+        match self.ahead.along.take() {
+            Some((of, along)) if of == next => Ok(along),
+            _ => Ok(self.digests(self.next_changes(next), None, &[])?.along),
+        }
     }
 
     /// The changes that committing makes, in order, to be made in the store first. `Fits`: the action can still be
@@ -327,54 +330,78 @@ impl Session {
         requires { Fits prepared.now self.now }
         ensures { map change_of result.now ≡ changes_by_kind prepared.now.kind self.now }
     {
-        match &prepared.task {
-            Task::Change(changes) => changes.as_slice(),
-            Task::Undo => self.next_undo(),
-            Task::Redo => self.next_redo(),
+        match &prepared.kind {
+            Kind::Changing(changes) => changes.as_slice(),
+            Kind::Moving(next) => self.next_changes(*next),
         }
     }
 
-    // The journals of a task, along whose changes these are the fingerprints. `CanBe`: the task has changes to apply, or
-    // an entry to undo or redo. The changes are applied to the folder and taken back, even if memory runs out; their
-    // bytes are copied only into the journals.
-    fn spell(&mut self, task: &mut Task, fingerprints: &Fingerprints) -> Result<Journals>
-        requires can { CanBe (task_kind task.old) self.old }
-        requires along { let changes = changes_by_kind (task_kind task.old) self.old in
-            AreAlong self.old.folder.files changes fingerprints.now }
+    // The journals of a command with these changes, along which these are the fingerprints. The changes are applied and
+    // taken back, even if memory runs out; their bytes are copied only into the journals.
+    fn spell_changes(
+        &mut self,
+        fingerprints: &[[u8; 16]],
+        changes: &mut Changes,
+    ) -> Result<Journals>
+        requires applies { IsTrue (takes_all self.old.folder changes.old) }
+        requires along { fingerprints.now ≡ prints_along self.old.folder.files changes.old }
         ensures unchanged { self.new ≡ self.old }
-        ensures task { task_kind task.new ≡ task_kind task.old }
-        ensures spelled { IfOk result (SpellsReady (task_kind task.old) self.old) }
+        ensures changes { changes.new ≡ changes.old }
+        ensures spelled { IfOk result (SpellsReady (Changing changes.old) self.old) }
     {
-        let cursor = self.cursor;
-        let folder = &mut self.folder;
-        match task {
-            Task::Change(changes) => {
-                spell_command(fingerprints, &self.entries, cursor, folder, changes)
+        let alloc = self.allocator();
+        let front = begin(alloc, &self.parts(fingerprints[0]))?;
+        changes.apply_and_invert(&mut self.folder);
+        let after = JournalView {
+            fingerprint: fingerprints[fingerprints.len() - 1],
+            cursor: self.cursor + 1,
+            entries: &self.entries[..self.cursor],
+            newer: from_ref(&*changes),
+        };
+        let answer = both(alloc, front, &fingerprints[1..], changes, &after);
+        changes.apply_and_invert(&mut self.folder);
+        answer
+    }
+
+    // The journals of an undo or redo, along whose changes these are the fingerprints. It is done and taken back, even
+    // if memory runs out; the bytes are copied only into the journals.
+    fn spell_move(&mut self, fingerprints: &[[u8; 16]], next: Next) -> Result<Journals>
+        requires some { entries_for next self.old ≢ [] }
+        requires along { fingerprints.now
+            ≡ prints_along self.old.folder.files (next_changes next self.old) }
+        ensures unchanged { self.new ≡ self.old }
+        ensures spelled { IfOk result (SpellsReady (Moving next) self.old) }
+    {
+        let alloc = *self.entries.allocator();
+        let front = begin(alloc, &self.parts(fingerprints[0]))?;
+        self.go(next);
+        let answer = match self.next_entry(next.opposite()) {
+            Some(back) => {
+                let after = self.parts(fingerprints[fingerprints.len() - 1]);
+                both(alloc, front, &fingerprints[1..], back, &after)
             }
-            Task::Undo => {
-                let at = cursor - 1;
-                spell_entry(fingerprints, &mut self.entries, at, cursor, at, folder)
-            }
-            Task::Redo => {
-                let to = cursor + 1;
-                spell_entry(fingerprints, &mut self.entries, cursor, cursor, to, folder)
-            }
-        }
+            None => unreachable!(),
+        };
+        self.go(next.opposite());
+        answer
     }
 
     /// The journals of a prepared action, to be put in the store before and after its changes. The changes are applied
     /// to the folder and taken back, even if memory runs out; their bytes are copied only into the journals.
     /// `HasPrintsOf`: the folder is the one that the action was prepared on. `SpellsReady`: the journals are those of
-    /// what is ready. `SpellsAction`: so they are those of each action that it was prepared for.
+    /// what is ready, and so, by `ready_changes_apply`, those of each action that it was prepared for.
     pub fn journals(&mut self, prepared: &mut Prepared) -> Result<Journals>
         requires fits { Fits prepared.old self.old }
         requires prints { HasPrintsOf self.old prepared.old }
         ensures unchanged { self.new ≡ self.old }
         ensures prepared { prepared.new ≡ prepared.old }
         ensures spelled { IfOk result (SpellsReady prepared.old.kind self.old) }
-        ensures journals { IfOk result (SpellsAction prepared.old self.old) }
     {
-        self.spell(&mut prepared.task, &prepared.fingerprints)
+        let fingerprints = prepared.fingerprints.as_slice();
+        match &mut prepared.kind {
+            Kind::Changing(changes) => self.spell_changes(fingerprints, changes),
+            Kind::Moving(next) => self.spell_move(fingerprints, *next),
+        }
     }
 
     /// Commits a prepared action to the session, after its changes are made in the store, and returns its steps. It
@@ -384,17 +411,10 @@ impl Session {
         ensures session { self.new ≡ after_commit prepared.kind self.old }
         ensures steps { result ≡ prepared.steps }
     {
-        let Prepared { task, steps, .. } = prepared;
-        match task {
-            Task::Change(changes) => self.add(changes),
-            Task::Undo => {
-                let undone = self.undo();
-                prove!(undone.is_ok());
-            }
-            Task::Redo => {
-                let redone = self.redo();
-                prove!(redone.is_ok());
-            }
+        let Prepared { kind, steps, .. } = prepared;
+        match kind {
+            Kind::Changing(changes) => self.add(changes),
+            Kind::Moving(next) => self.go(next),
         }
         steps
     }

@@ -13,9 +13,8 @@ ghost use Rattle.par2_journal.specs.Ready.{kept_journal};
 ghost use Rattle.par2_journal.specs.Walks.{WentForth};
 
 use crate::opening::{Opened, Opening, can_apply, session_from};
-use crate::spelling::Fingerprints;
 use crate::{Changes, Session};
-use par2_files::{Change, Folder, copies_of};
+use par2_files::{Change, Checkpoints, Folder, copies_of, fingerprints};
 use par2_journal_format::{HalfwayPart, Journal};
 use par2_spec::{JournalFault, Result};
 use std::alloc::Global;
@@ -68,8 +67,8 @@ fn go_back(
     if !can_apply(alloc, folder, way)? {
         return Err(JournalFault::JournalInvalid);
     }
-    let prints = Fingerprints::of(alloc, None, folder, way)?;
-    if prints.after_each.as_slice() != wanted {
+    let found = fingerprints(alloc, folder, way, &Checkpoints::none(alloc), &[])?;
+    if &found.along[1..] != wanted {
         return Err(JournalFault::JournalInvalid);
     }
     folder.apply_all(way);

@@ -1,5 +1,5 @@
 -- The number of writing calls to a store.
-use Rattle.par2_tool.proofs.Common.{◌≡◌, inr, ℕ, ◌+◌, List, length, Some, Result, Ok, Err, refl, ap, ◌∙◌, arith, Change, Action, Do, Verify, Folder, Opens, Halfway, Started, journals_of, Session, KeptSession, changes_requested, session_of_kept, Contents, action_of, Two, Ready, changes_by_kind, AreSpelled, Plan, NothingToUndo, NothingToRedo, Journals, IsCounted, AreAtMost, AreCallsToOpen, CountsCalls, IsOpening, WasRead, StandsFor, IsVerify, unopened_as, AreCallsToRun, CountsFailedRun, calls_requested, calls_unless, failure_for, calls_before, OpenFault, PerformFault, SessionFault}
+use Rattle.par2_tool.proofs.Common.{◌≡◌, inr, ℕ, ◌+◌, List, length, Some, Result, Ok, Err, refl, ap, ◌∙◌, arith, Change, Action, Do, Verify, Folder, Opens, Halfway, Started, Session, KeptSession, changes_requested, session_of_kept, Contents, action_of, Prepared, changes_by_kind, SpellsReady, Plan, NothingToUndo, NothingToRedo, Journals, IsCounted, AreAtMost, AreCallsToOpen, CountsCalls, IsOpening, WasRead, StandsFor, IsVerify, unopened_as, AreCallsToRun, CountsFailedRun, calls_requested, calls_unless, failure_for, calls_before, OpenFault, PerformFault, SessionFault}
 use Rattle.par2_spec.specs.declared.commands.Action as requested
 use Rattle.par2_tool.specs.declared.performing.PerformFault.TheVariants.{Session as Refusing, Store}
 use Rattle.par2_tool.proofs.Openings.{is_halfway}
@@ -8,9 +8,9 @@ use Rattle.par2_tool.proofs.Stops.{IsMadeReady, requested_of_mid}
 -- ---- an action
 
 -- what was prepared needs the calls of the requested changes
-pub ready_calls : (action : Action) (old : KeptSession) (ready : Ready) (mid : KeptSession) → IsMadeReady action old ready mid → (journals : Journals) → AreSpelled journals (journals_of Two (session_of_kept mid) action (changes_by_kind ready.kind mid))
+pub ready_calls : (action : Action) (old : KeptSession) (ready : Prepared) (mid : KeptSession) → IsMadeReady action old ready mid → (journals : Journals) → SpellsReady ready.kind mid journals
     → calls_before journals.halfway + (length (changes_by_kind ready.kind mid) + 1) ≡ calls_unless (changes_requested (session_of_kept old) action)
-ready_calls action old ready mid made journals spelled = unfold journals_of in grind (arith, requested_of_mid)
+ready_calls action old ready mid made journals spelled = grind (arith, requested_of_mid)
 
 -- any action but a verify makes the calls of its changes
 pub requested_calls : (action : requested.Action) (s : Session) → calls_unless (changes_requested s (action_of action)) ≡ calls_requested s (action_of action)

@@ -9,14 +9,18 @@ pub use Rattle.std.specs.Prelude.{IfErr, IfOk, IsErr, IsOk, OnErr, OnOk, codes, 
 pub use Rattle.std.specs.declared.alloc.Global.{Global}
 pub use Rattle.par2_files.specs.ChangeViews.{change_of}
 pub use Rattle.par2_journal.specs.Opening.{opened_of, session_before, way_left}
-pub use Rattle.par2_journal.specs.Ready.{CanBe, Changing, IsReady, Kind, Ready, Redoing, Undoing, after_commit, changes_by_kind, next_of}
+pub use Rattle.par2_journal.specs.Ready.{CanBe, IsReady, after_commit, changes_by_kind, entries_for, moved, next_of}
 pub use Rattle.par2_journal.specs.SessionRefusals.{MayRefuse}
-pub use Rattle.par2_journal.specs.Spelling.{AreSpelled, SpellsWhere}
+pub use Rattle.par2_journal.specs.Spelling.{SpellsReady, SpellsWhere}
 pub use Rattle.par2_journal.specs.StepViews.{step_view}
+pub use Rattle.par2_journal.specs.declared.ahead.Next.{Next}
+pub use Rattle.par2_journal.specs.declared.preparation.Kind.{Kind}
+pub use Rattle.par2_journal.specs.declared.preparation.Kind.TheVariants.{Changing, Moving}
+pub use Rattle.par2_journal.specs.declared.preparation.Prepared.{Prepared}
 pub use Rattle.par2_journal.specs.declared.preparation.SessionFault.{SessionFault}
 pub use Rattle.par2_journal.specs.declared.preparation.SessionFault.TheVariants.{NothingToRedo, NothingToUndo, Plan}
 pub use Rattle.par2_journal.specs.declared.spelling.Journals.{Journals}
-pub use Rattle.par2_laws.specs.Creates.{may_refuse}
+pub use Rattle.par2_spec.specs.Damage.{may_refuse}
 pub use Rattle.par2_output.specs.PrintedValues.{words_requested}
 pub use Rattle.par2_output.specs.PrinterStates.{IsFlushed, PrinterTookAll, PrinterWrote, failures_of, seen, writer_of}
 pub use Rattle.par2_output.specs.declared.printer.Printer.{Printer}

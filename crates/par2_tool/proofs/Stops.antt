@@ -1,25 +1,25 @@
 -- A command that is stopped anywhere leaves a store that opens as before it or after it.
-use Rattle.par2_tool.proofs.Common.{by_either, ◌≡◌, ◌≢◌, ◌⊎◌, inl, inr, ℕ, ◌≤◌, List, [], ◌∷◌, length, take, Option, Some, None, Result, Ok, true, IsTrue, refl, sym, ap, subst, ◌∙◌, arith, Vec, IfOk, Global, take_all, Change, are_applicable, takes_all, effects, Action, Folder, Spells, LeadsToAfterRequested, OpensAs, FingerprintsDiffer, halfway_where, settled_journal, journals_of, Session, KeptSession, CanWalk, OnlyGrew, session_of_kept, session_with, changes_requested, kept_done, kept_undone, kept_redone, Contents, with_journal, Two, done_can_walk, undone_can_walk, redone_can_walk, grown_can_walk, walked_is_valid, same_session, settled_stored, halfway_stored, Kind, Changing, Undoing, Redoing, Ready, CanBe, IsReady, changes_by_kind, after_commit, next_of, SpellsWhere, AreSpelled, Journals, with_all_changes, IsOpening, Holds, with_history, HoldsJournaled, with_halfway_journal, after_write_down, IsStoppedAt, FingerprintsDifferAlong, OpensAsBeforeOrAfter}
+use Rattle.par2_tool.proofs.Common.{by_either, ◌≡◌, ◌≢◌, ◌⊎◌, inl, inr, ℕ, ◌≤◌, List, [], ◌∷◌, length, take, Option, Some, None, Result, Ok, true, IsTrue, refl, sym, ap, subst, ◌∙◌, arith, Vec, IfOk, Global, take_all, Change, are_applicable, takes_all, effects, Action, Folder, Spells, LeadsToAfterRequested, OpensAs, FingerprintsDiffer, halfway_where, settled_journal, Session, KeptSession, CanWalk, OnlyGrew, session_of_kept, changes_requested, kept_done, kept_undone, kept_redone, Contents, with_journal, Two, done_can_walk, undone_can_walk, redone_can_walk, grown_can_walk, walked_is_valid, same_session, settled_stored, halfway_stored, Kind, Changing, Moving, Next, Prepared, CanBe, IsReady, entries_for, moved, changes_by_kind, after_commit, next_of, SpellsWhere, SpellsReady, Journals, with_all_changes, IsOpening, Holds, with_history, HoldsJournaled, with_halfway_journal, after_write_down, IsStoppedAt, FingerprintsDifferAlong, OpensAsBeforeOrAfter}
+use Rattle.par2_journal.specs.declared.ahead.Next.TheVariants as next
 use Rattle.par2_spec.proofs.FolderLaws.{state_files, taken_are_applicable}
 use Rattle.par2_tool.proofs.MadeChanges.{all_changed_is, same_changes}
 
 -- ---- the session afterwards
 
-undone_walks : (s : KeptSession) (entries : List (List Change)) → s.undos ≡ entries → entries ≢ [] → CanWalk s → CanWalk (kept_undone s (next_of entries))
-undone_walks s [] e some walks = absurd (some refl)
-undone_walks s (cs ∷ rest) e some walks = undone_can_walk s cs rest walks e
-
-redone_walks : (s : KeptSession) (entries : List (List Change)) → s.redos ≡ entries → entries ≢ [] → CanWalk s → CanWalk (kept_redone s (next_of entries))
-redone_walks s [] e some walks = absurd (some refl)
-redone_walks s (cs ∷ rest) e some walks = redone_can_walk s cs rest walks e
+moved_walks : (n : Next) (s : KeptSession) (entries : List (List Change)) → entries_for n s ≡ entries → entries ≢ [] → CanWalk s → CanWalk (moved n s)
+moved_walks n s [] e some walks = absurd (some refl)
+moved_walks next.Undo s (cs ∷ rest) e some walks = undone_can_walk s (next_of s.undos) rest walks (e ∙ ap (λ es. next_of es ∷ rest) (sym e))
+moved_walks next.Redo s (cs ∷ rest) e some walks = redone_can_walk s (next_of s.redos) rest walks (e ∙ ap (λ es. next_of es ∷ rest) (sym e))
 
 committed_walks : (kind : Kind) (s : KeptSession) → CanWalk s → CanBe kind s → CanWalk (after_commit kind s)
 committed_walks (Changing cs) s walks can = done_can_walk s cs walks can.0
-committed_walks Undoing s walks can = undone_walks s s.undos refl can walks
-committed_walks Redoing s walks can = redone_walks s s.redos refl can walks
+committed_walks (Moving n) s walks can = moved_walks n s (entries_for n s) refl can walks
 
 committed_files : (kind : Kind) (s : KeptSession) → (after_commit kind s).folder.files ≡ effects s.folder.files (changes_by_kind kind s)
-committed_files kind s = unfold kept_done kept_undone kept_redone in grind (arith, state_files)
+unfolding kept_done kept_undone kept_redone
+committed_files (Changing cs) s = state_files s.folder cs
+committed_files (Moving next.Undo) s = state_files s.folder (next_of s.undos)
+committed_files (Moving next.Redo) s = state_files s.folder (next_of s.redos)
 
 -- ---- the contents
 
@@ -50,23 +50,20 @@ settled_holds k s bytes walks spells files =
 
 -- ---- what was prepared on a session for an action
 
-pub record IsMadeReady (action : Action) (old : KeptSession) (ready : Ready) (mid : KeptSession) : Type 0 where
+pub record IsMadeReady (action : Action) (old : KeptSession) (ready : Prepared) (mid : KeptSession) : Type 0 where
   pub grew : OnlyGrew old mid
   pub is : IsReady action old ready mid
   pub walks : CanWalk mid
   pub applies : IsTrue (takes_all mid.folder (changes_by_kind ready.kind mid))
-  pub commits : session_of_kept (after_commit ready.kind mid) ≡ session_with (session_of_kept mid) action (changes_by_kind ready.kind mid)
 
 -- by the law about prepared changes
 pub made_ready : ((kind : Kind) (s : KeptSession) → CanWalk s → CanBe kind s → IsTrue (takes_all s.folder (changes_by_kind kind s)))
-    → ((action : Action) (old new : KeptSession) (ready : Ready) → OnlyGrew old new → IsReady action old ready new
-    → session_of_kept (after_commit ready.kind new) ≡ session_with (session_of_kept new) action (changes_by_kind ready.kind new))
-    → (action : Action) (old : KeptSession) (ready : Ready) (mid : KeptSession) → OnlyGrew old mid → IsReady action old ready mid → CanWalk old → IsMadeReady action old ready mid
-made_ready applies commits action old ready mid grew is walks =
+    → (action : Action) (old : KeptSession) (ready : Prepared) (mid : KeptSession) → OnlyGrew old mid → IsReady action old ready mid → CanWalk old → IsMadeReady action old ready mid
+made_ready applies action old ready mid grew is walks =
     let mid_walks = grown_can_walk old mid walks grew in
-    record { grew = grew; is = is; walks = mid_walks; applies = applies ready.kind mid mid_walks is.fits.can; commits = commits action old mid ready grew is }
+    record { grew = grew; is = is; walks = mid_walks; applies = applies ready.kind mid mid_walks is.fits.can }
 
-module _ (action : Action) (old : KeptSession) (ready : Ready) (mid : KeptSession) (made : IsMadeReady action old ready mid) where
+module _ (action : Action) (old : KeptSession) (ready : Prepared) (mid : KeptSession) (made : IsMadeReady action old ready mid) where
   -- it applies the changes that the action requests
   pub requested_of_mid : changes_requested (session_of_kept old) action ≡ Ok (changes_by_kind ready.kind mid)
   requested_of_mid = made.is.requested ∙ ap Ok (same_changes old mid ready.kind made.grew)
@@ -80,24 +77,15 @@ module _ (action : Action) (old : KeptSession) (ready : Ready) (mid : KeptSessio
   pub ready_applies : (k : Contents) → k.files ≡ old.folder.files → (cs : List Change) → cs ≡ changes_by_kind ready.kind mid → IsTrue (are_applicable k.files cs)
   ready_applies k files cs is = grind (arith, taken_are_applicable)
 
-module _ (action : Action) (old : KeptSession) (ready : Ready) (mid : KeptSession) (made : IsMadeReady action old ready mid) (journals : Journals)
-    (spelled : AreSpelled journals (journals_of Two (session_of_kept mid) action (changes_by_kind ready.kind mid))) (k : Contents) (files : k.files ≡ old.folder.files) where
-  -- the last journal is that of the session afterwards
-  after_spelled : Spells journals.after.items (settled_journal Two (session_of_kept (after_commit ready.kind mid)))
-  unfolding journals_of
-  after_spelled = subst (λ (s : Session). Spells journals.after.items (settled_journal Two s)) (sym made.commits) spelled.1
-
-  halfway_spelled : SpellsWhere journals.halfway (halfway_where Two (session_of_kept mid) (changes_by_kind ready.kind mid))
-  unfolding journals_of
-  halfway_spelled = spelled.0
-
+module _ (action : Action) (old : KeptSession) (ready : Prepared) (mid : KeptSession) (made : IsMadeReady action old ready mid) (journals : Journals)
+    (spelled : SpellsReady ready.kind mid journals) (k : Contents) (files : k.files ≡ old.folder.files) where
   written_holds : Holds (after_write_down k journals (changes_by_kind ready.kind mid)) (with_history (session_of_kept (after_commit ready.kind mid)))
   written_holds =
-      settled_holds (with_all_changes (with_halfway_journal k journals.halfway) (changes_by_kind ready.kind mid)) (after_commit ready.kind mid) journals.after.items (committed_walks ready.kind mid made.walks made.is.fits.can) after_spelled
+      settled_holds (with_all_changes (with_halfway_journal k journals.halfway) (changes_by_kind ready.kind mid)) (after_commit ready.kind mid) journals.after.items (committed_walks ready.kind mid made.walks made.is.fits.can) spelled.1
       (changed_files k journals.halfway (changes_by_kind ready.kind mid) ∙ ap (λ f. effects f (changes_by_kind ready.kind mid)) (files ∙ sym made.grew.files) ∙ sym (committed_files ready.kind mid))
 
   pub written_down : HoldsJournaled (session_of_kept (after_commit ready.kind mid)) (after_write_down k journals (changes_by_kind ready.kind mid))
-  written_down = record { holds = written_holds; bytes = journals.after.items; journal = refl; spells = after_spelled }
+  written_down = record { holds = written_holds; bytes = journals.after.items; journal = refl; spells = spelled.1 }
 
   -- after some of the changes
   passed_opens : (halfway : Option (Vec ℕ Global)) (changes : List Change) (n : ℕ) → SpellsWhere halfway (halfway_where Two (session_of_kept mid) changes) → takes_all mid.folder changes ≡ true → FingerprintsDiffer mid.folder.files changes → n ≤ length changes
@@ -117,7 +105,7 @@ module _ (action : Action) (old : KeptSession) (ready : Ready) (mid : KeptSessio
   pub stopped_opens : (new : Contents) → IsStoppedAt k journals (changes_by_kind ready.kind mid) new → FingerprintsDifferAlong (session_of_kept old) action → LeadsToAfterRequested old.folder.files action → OpensAsBeforeOrAfter (session_of_kept old) action k new
   stopped_opens new (inl e) apart leads = inl e
   stopped_opens new (inr (inl s)) apart leads =
-      by_either (passed_opens journals.halfway (changes_by_kind ready.kind mid) s.0 halfway_spelled made.applies (apart_from_mid apart) s.1)
+      by_either (passed_opens journals.halfway (changes_by_kind ready.kind mid) s.0 spelled.0 made.applies (apart_from_mid apart) s.1)
       (λ none. inl (s.2 ∙ none))
       (λ opens. inr (inl (subst (λ (t : Session). IsOpening new (Ok (with_history t))) (same_session old mid made.grew) (subst (λ (x : Contents). IsOpening x (Ok (with_history (session_of_kept mid)))) (sym s.2) opens))))
   stopped_opens new (inr (inr e)) apart leads =

@@ -18,9 +18,9 @@ use Rattle.par2_spec.specs.declared.Failure.{Failure}
 use Rattle.par2_spec.specs.declared.Failure.TheVariants as failure
 use Rattle.par2_spec.specs.declared.Fault.TheVariants as fault
 use Rattle.par2_spec.specs.declared.JournalFault.TheVariants as journal
-use Rattle.par2_laws.specs.Answers.{HasFiles, KeepsFiles, OthersAgree}
-use Rattle.par2_laws.specs.Creates.{FollowsCreate, HaveAChoice}
-use Rattle.par2_laws.specs.Premises.{IsTrueTo}
+use Rattle.par2_spec.specs.RepairLaws.{HasFiles, KeepsFiles, OthersAgree}
+use Rattle.par2_spec.specs.Damage.{FollowsCreate, HaveAChoice}
+use Rattle.par2_spec.specs.Premises.{IsTrueTo}
 use Rattle.par2_arguments.specs.Definition.{par2_app}
 use Rattle.par2_arguments.specs.Meanings.{requested_by}
 use Rattle.par2_disk.specs.declared.view.Store.{Ghosts as StoreOf}

@@ -1,7 +1,7 @@
 //! Writing changes to a store between two journals: `write_down` puts the halfway journal (`begin`), makes the changes
 //! (`write_change`), and puts the final journal. `perform` calls it, and so does taking back a halfway command.
-ghost use Rattle.std.specs.Prelude.{◌≡◌, ◌+◌, OnOk};
-ghost use Rattle.par2_disk.specs.Stores.{CountsFailures, Makes};
+ghost use Rattle.std.specs.Prelude.{OnOk};
+ghost use Rattle.par2_disk.specs.Stores.{Makes};
 ghost use Rattle.par2_files.specs.ChangeViews.{change_of};
 ghost use Rattle.par2_tool.specs.Opening.{ContentsAreDurable, StaysKept};
 ghost use Rattle.par2_tool.specs.Performing.{Begins, WritesDown};
@@ -14,9 +14,7 @@ use par2_journal::Journals;
 // overwritten.
 #[tactic(auto, unfolding(par2_spec::specs::Changes::effect))]
 fn write_change<S: FolderStore>(store: &mut S, change: &Change) -> Result<(), StoreFault>
-    ensures made { Makes S.Store store.old store.new (change_of change.now) result }
-    ensures failures { CountsFailures S.failures store.old store.new result }
-    ensures counted { S.writing_calls store.new ≡ S.writing_calls store.old + 1 }
+    ensures { Makes S.Store store.old store.new (change_of change.now) result }
 {
     match change {
         Change::Write(name, bytes) => store.write(name, bytes.as_slice()),

@@ -1,7 +1,8 @@
-use Rattle.par2_journal.proofs.Common.{◌≡◌, ◌≤◌, true, Bool, inr, refl, length, sym, ap, ◌∙◌, arith, pointwise, bytes_eq, length-map, not-false, not-true, FolderState, takes_all, are_applicable, takes_applicable, leads_through, change_of, changes_in}
+use Rattle.par2_journal.proofs.Common.{◌≡◌, ◌≤◌, ◌-◌, take, drop, true, Bool, inr, refl, length, sym, ap, ◌∙◌, arith, pointwise, bytes_eq, length-map, not-false, not-true, FolderState, takes_all, are_applicable, takes_applicable, leads_through, change_of, changes_in}
 use Rattle.std.specs.Prelude.{List}
 use Rattle.par2_files.specs.declared.change.Change.{Change}
 use Rattle.par2_journal.proofs.Openings.{goes, goes_not}
+use Rattle.par2_journal.proofs.Prints.{each_after}
 use Rattle.par2_journal.proofs.Readiness.{places_within}
 use Rattle.par2_journal.proofs.Ways.{went_forth}
 use Rattle.par2_journal.proofs.taking_back.go_back.Goals.{After-ne}
@@ -12,12 +13,11 @@ taken : (folder : FolderState) (way : List Change) (can : Bool) → can ≡ are_
 taken folder way can is so room = takes_applicable folder (changes_in way) (sym is ∙ so) (omega (arith, places_within (changes_in way), length-map way change_of, room))
 
 -- whether the changes lead through the expected fingerprints
-leads : (c : After-ne) → pointwise bytes_eq c.as_slice.result.now c.args.wanted.now ≡ leads_through c.args.folder.now.files (changes_in c.args.way.now) c.args.wanted.now
+leads : (c : After-ne) → pointwise bytes_eq (take (length c.deref.result.now - 1) (drop 1 c.deref.result.now)) c.args.wanted.now ≡ leads_through c.args.folder.now.files (changes_in c.args.way.now) c.args.wanted.now
 leads c =
     let way = changes_in c.args.way.now in
     let each : length c.args.wanted.now ≡ length way = omega (arith, c.requires, length-map c.args.way.now change_of) in
-    ap (λ l. pointwise bytes_eq l c.args.wanted.now) c.as_slice.ensures.value
-    ∙ goes c.reserve.new.self.files way c.args.wanted.now c.in_ok-prints.prints.after_each.items each (sym c.in_ok-can_apply.ensures ∙ c.if-not-branch.false) c.in_ok-prints.ensures.after_each
+    goes c.reserve.new.self.files way c.args.wanted.now _ each (sym c.in_ok-can_apply.ensures ∙ c.if-not-branch.false) (each_after c.deref.result.now c.reserve.new.self.files way (c.deref.ensures.value ∙ c.in_ok-found.ensures.along))
     ∙ ap (λ f. leads_through f way c.args.wanted.now) c.reserve.ensures.files
 
 -- ---- the goals
@@ -27,8 +27,8 @@ returns-then-not-branch-clause-refused c =
     let way = changes_in c.args.way.now in
     inr (refl, ap (λ f. leads_through f way c.args.wanted.now) (sym c.reserve.ensures.files) ∙ sym (goes_not c.reserve.new.self.files way c.args.wanted.now (sym c.in_ok-can_apply.ensures ∙ c.if-not-branch.true)))
 
-pub of-requires-clause-applies : goal.of-requires-clause-applies
-of-requires-clause-applies c = taken c.reserve.new.self c.args.way.now c.in_ok-can_apply.field-0 c.in_ok-can_apply.ensures c.if-not-branch.false (omega (arith, c.in_ok-reserve.ensures.ok))
+pub fingerprints-requires-clause-taken : goal.fingerprints-requires-clause-taken
+fingerprints-requires-clause-taken c = taken c.reserve.new.self c.args.way.now c.in_ok-can_apply.field-0 c.in_ok-can_apply.ensures c.if-not-branch.false (omega (arith, c.in_ok-reserve.ensures.ok))
 
 pub returns-then-ne-clause-refused : goal.returns-then-ne-clause-refused
 returns-then-ne-clause-refused c =

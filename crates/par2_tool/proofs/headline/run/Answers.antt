@@ -1,6 +1,6 @@
 use Rattle.par2_tool.proofs.Common.{◌≡◌, ◌≢◌, ◌⊎◌, ◌<◌, inl, ℕ, List, Some, sym, ap, subst, ◌∙◌, map, arith, Action, Repair, Undo, AskFor, TakesEffect, AskForRepair, Folder, CreateArgs, Fault, status_of_fault, may_refuse, string_bytes, false≢true, true}
-use Rattle.par2_laws.specs.Answers.{HasFiles, KeepsFiles}
-use Rattle.par2_laws.specs.Creates.{FollowsCreate}
+use Rattle.par2_spec.specs.RepairLaws.{HasFiles, KeepsFiles}
+use Rattle.par2_spec.specs.Damage.{FollowsCreate}
 use Rattle.par2_tool.proofs.RunEffects.{IsRefused, Leaves, accepted_with_zero, effect_of, leaves_of, repair_refused, repaired, stopped_effect}
 use Rattle.par2_tool.proofs.RunCalls.{verify_makes_none}
 use Rattle.par2_tool.proofs.Statuses.{own_status, shown_status, reported_of}

@@ -1,4 +1,4 @@
-use Rattle.par2_tool.proofs.Common.{◌≡◌, ◌+◌, inl, List, length, refl, sym, ap, subst, ◌∙◌, map, take, ℕ, arith, Result, OnOk, IfOk-from_err, on_ok_weaker, IsVerify, HoldsJournaled, AreAtMost, KeptSession, after_write_down, IsStoppedAt, IsWritten, calls_requested, FingerprintsDifferAlong, OpensAsBeforeOrAfter, calls_before, length-map, Verify, session_of_kept, changes_requested, Contents, action_of, command_of, report_view, MayRefuse, Plan, Two, AreSpelled, change_of, changes_by_kind, after_commit, journals_of, ok_no_err, early_refusal_of, IfOk, effects, PerformFault, ActsOn, IsOn, IsPerformed, RefusesAtOnce}
+use Rattle.par2_tool.proofs.Common.{◌≡◌, ◌+◌, inl, List, length, refl, sym, ap, subst, ◌∙◌, map, take, ℕ, arith, Result, OnOk, IfOk-from_err, on_ok_weaker, IsVerify, HoldsJournaled, AreAtMost, KeptSession, after_write_down, IsStoppedAt, IsWritten, calls_requested, FingerprintsDifferAlong, OpensAsBeforeOrAfter, calls_before, length-map, Verify, session_of_kept, changes_requested, Contents, action_of, command_of, report_view, MayRefuse, Plan, SpellsReady, change_of, changes_by_kind, after_commit, ok_no_err, early_refusal_of, IfOk, effects, PerformFault, ActsOn, IsOn, IsPerformed, RefusesAtOnce}
 use Rattle.par2_spec.specs.Changes as defined
 use Rattle.par2_spec.specs.declared.commands.Action as requested
 use Rattle.par2_spec.specs.declared.commands.Command.{Command}
@@ -93,13 +93,13 @@ returns-in-Err-write_down-clause-at_once g c = none_at_once g (goal.at.returns-i
 
 -- what was prepared, and the changes that were written
 made_of : (g : _) (c : After-write_down g) → IsMadeReady (action_of c.in-Act.action) c.args.session.now c.in-Ok-prepare.prepared c.prepare.new.self
-made_of g c = made_ready c.ready_changes_apply.ensures.applies c.ready_changes_apply.ensures.commits (action_of c.in-Act.action) c.args.session.now c.in-Ok-prepare.prepared c.prepare.new.self c.in-Ok-prepare.ensures.kept c.in-Ok-prepare.ensures.ready c.folder-folder.ensures.walks
+made_of g c = made_ready c.ready_changes_apply.ensures.applies (action_of c.in-Act.action) c.args.session.now c.in-Ok-prepare.prepared c.prepare.new.self c.in-Ok-prepare.ensures.kept c.in-Ok-prepare.ensures.ready c.folder-folder.ensures.walks
 
 changed_so : (g : _) (c : After-write_down g) → map change_of c.changes.result.now ≡ changes_by_kind c.in-Ok-prepare.prepared.kind c.prepare.new.self
 changed_so g c = c.changes.ensures ∙ (λ i. changes_by_kind (c.in_ok-journals.ensures.prepared i).kind (c.in_ok-journals.ensures.unchanged i))
 
-spelled_so : (g : _) (c : After-write_down g) → AreSpelled c.in_ok-journals.journals (journals_of Two (session_of_kept c.prepare.new.self) (action_of c.in-Act.action) (changes_by_kind c.in-Ok-prepare.prepared.kind c.prepare.new.self))
-spelled_so g c = c.in_ok-journals.ensures.journals (action_of c.in-Act.action) c.args.session.now (made_of g c).grew (made_of g c).is
+spelled_so : (g : _) (c : After-write_down g) → SpellsReady c.in-Ok-prepare.prepared.kind c.prepare.new.self c.in_ok-journals.journals
+spelled_so g c = c.in_ok-journals.ensures.spelled
 
 -- wherever that stops
 abbrev IsStop : (g : _) → After-write_down g → Contents → Type 0

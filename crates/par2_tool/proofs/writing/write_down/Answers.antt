@@ -52,16 +52,16 @@ returns-in-Err-clause-written g c =
     let call = c.write_change.ensures in
     let between = next_remains mid (g.S.Store.contents c.loop-change.store) in
     record {
-      honest = λ h. call.made.writes.honest (held.honest (begun.written.honest h));
+      honest = λ h. call.writes.honest (held.honest (begun.written.honest h));
       done = λ _. tt;
       stopped = λ h.
           let on = begun.written.honest h in
           some_crash_states old journals (map change_of changes) mid _ (begun.written.done h)
-          (between _ changes c.loop-change.change-index item c.loop-change-test.true c.change-item.is (held.made on) (c.in-Err.ensures.made.writes.all_or_none (held.honest on)));
+          (between _ changes c.loop-change.change-index item c.loop-change-test.true c.change-item.is (held.made on) (c.in-Err.ensures.writes.all_or_none (held.honest on)));
       remains = λ h durable left may.
           let on = begun.written.honest h in
           some_crash_states old journals (map change_of changes) mid left (begun.written.done h)
-          (between left changes c.loop-change.change-index item c.loop-change-test.true c.change-item.is (held.made on) (call.made.writes.remains (held.honest on) (held.durable on (begun.kept h durable)) left may));
+          (between left changes c.loop-change.change-index item c.loop-change-test.true c.change-item.is (held.made on) (call.writes.remains (held.honest on) (held.durable on (begun.kept h durable)) left may));
       failures = record {
         later = omega (arith, begun.written.failures.steady, held.later, call.failures.later);
         cause = omega (arith, begun.written.failures.steady, held.steady, c.in-Err.ensures.failures.cause);
@@ -70,7 +70,7 @@ returns-in-Err-clause-written g c =
       possible = λ h applies.
           let on = begun.written.honest h in
           let all = applies_still g (goal.at.returns-in-Err-clause-written g c).In_ok-begin h applies in
-          c.in-Err.ensures.made.possible (held.honest on) (applicable_here _ _ _ _ item (held.made on) c.loop-change-test.true c.change-item.is all)
+          c.in-Err.ensures.possible (held.honest on) (applicable_here _ _ _ _ item (held.made on) c.loop-change-test.true c.change-item.is all)
           ∙ held.possible on all ∙ begun.written.possible h (unfold are_applicable in refl);
       calls = record {
         done = tt;
@@ -125,7 +125,7 @@ pub loop-change-preserved : goal.loop-change-preserved
 loop-change-preserved g c =
     let held = c.loop-change.invariant in
     let item = c.change-item.result in
-    let call = c.in-Ok.ensures.made.writes in
+    let call = c.in-Ok.ensures.writes in
     record {
       honest = λ h. call.honest (held.honest h);
       made = λ h.
@@ -136,7 +136,7 @@ loop-change-preserved g c =
       later = omega (arith, held.later, c.write_change.ensures.failures.later);
       steady = c.in-Ok.ensures.failures.steady ∙ held.steady;
       possible = λ h all.
-          c.in-Ok.ensures.made.possible (held.honest h) (applicable_here _ _ _ _ item (held.made h) c.loop-change-test.true c.change-item.is all) ∙ held.possible h all;
+          c.in-Ok.ensures.possible (held.honest h) (applicable_here _ _ _ _ item (held.made h) c.loop-change-test.true c.change-item.is all) ∙ held.possible h all;
       counted = omega (arith, held.counted, c.write_change.ensures.counted);
       within = omega (arith, c.loop-change-test.true);
     }

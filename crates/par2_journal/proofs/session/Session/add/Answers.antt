@@ -15,5 +15,5 @@ invariant_of-self c =
     record {
       within = rw items (omega (arith, length_added xs n within inverted));
       walks = rw items (done_walks c.self.inside.folder c.apply_and_invert.new.folder xs n within _ _ c.args.changes inverted c.apply_and_invert.ensures.folder c.apply_and_invert.ensures.way_back c.self.invariant.walks applies);
-      ahead = tt;
+      ahead = c.none.ensures _;
     }

@@ -6,5 +6,5 @@ unfolding walks
 invariant_of-result c = record {
   within = omega arith;
   walks = record { back = refl; forth = rw c.new.ensures.items refl };
-  ahead = tt;
+  ahead = c.none.ensures _;
 }
