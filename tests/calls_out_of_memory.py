@@ -21,7 +21,7 @@ REACHED = 9
 # The call that never fails from one refused growth: the other of the two actions is done.
 NEVER_TOLD = ("Session::play of two",)
 # The calls that fail only from two refused growths in a row: a list whose size is refused as a whole grows item by item.
-TOLD_AT_THE_SECOND = ("Folder::names", "MemoryStore::names")
+TOLD_AT_THE_SECOND = ("Folder::names", "MemoryStore::names", "whole_buffers")
 
 # The file `a` was cut after a create.
 DAMAGED = "new\nput a abcdefgh\nrun create -s4 -c1 t.par2 a\nput a abcdef\n"
