@@ -1,7 +1,7 @@
 -- A store over a directory: the counts of its failures, of calls that can't be done, and of writing calls, and what
 -- each call does. `state` gives the directory as contracts see it.
 use Rattle.std.specs.Prelude.{◌≡◌, ◌⊎◌, ◌<◌, ◌≤◌, ◌||◌, ℕ, Bool, List, None, Some, Result, IfErr, IfSome, IsErr, IsErrOf, IsFalse, IsSome, IsTrue, OnErr, OnOk, is_ok}
-use Rattle.par2_spec.specs.Changes.{Change, is_applicable}
+use Rattle.par2_spec.specs.Changes.{Change, Write, Replace, Rename, Remove, is_applicable}
 use Rattle.par2_spec.specs.Folders.{has}
 use Rattle.par2_spec.specs.Stores.{with_change}
 use Rattle.par2_disk.specs.Cuts.{AreKept, NoMore}
@@ -38,12 +38,19 @@ pub record HasSeenAsMuch {D : Type 0} (old new : DiskStore D) : Type 0 where
   pub seen : new.seen ≡ old.seen
   pub entered : new.is_entered ≡ old.is_entered
 
--- a file has the name, if one is wanted, or nothing has it. If that is otherwise because of a file, the call can't be
--- done, which is counted; nothing else changes
-pub record FindsAs {D T : Type 0} (state : D → DirectoryState) (old new : DiskStore D) (name : List ℕ) (wanted : Bool) (result : Result T StoreFault) : Type 0 where
-  pub found : (state old.directory).honest → OnOk result ((has (state old.directory).contents.files name ≡ wanted) × ((state old.directory).barred name → ⊥))
-  pub reason : (state old.directory).honest → has (state old.directory).contents.files name ≡ wanted → (IsFalse wanted → (state old.directory).barred name → ⊥) → OnErr result ((state old.directory).may_fail Store)
-  pub possible : (state old.directory).honest → has (state old.directory).contents.files name ≡ wanted → new.impossible.count ≡ old.impossible.count
+-- `find_file`: the named file is found. If there is none, the call can't be done, which is counted; nothing else changes
+pub record FindsFile {D T : Type 0} (state : D → DirectoryState) (old new : DiskStore D) (name : List ℕ) (result : Result T StoreFault) : Type 0 where
+  pub file : (state old.directory).honest → OnOk result (IsTrue (has (state old.directory).contents.files name) × ((state old.directory).barred name → ⊥))
+  pub reason : (state old.directory).honest → IsTrue (has (state old.directory).contents.files name) → OnErr result ((state old.directory).may_fail Store)
+  pub possible : (state old.directory).honest → IsTrue (has (state old.directory).contents.files name) → new.impossible.count ≡ old.impossible.count
+  pub grows : old.impossible.count ≤ new.impossible.count
+  pub rest : new ≡ record old { impossible = new.impossible }
+
+-- `find_nothing`: nothing has the name. If a file has it, the call can't be done, which is counted; nothing else changes
+pub record FindsNothing {D T : Type 0} (state : D → DirectoryState) (old new : DiskStore D) (name : List ℕ) (result : Result T StoreFault) : Type 0 where
+  pub nothing : (state old.directory).honest → OnOk result (IsFalse (has (state old.directory).contents.files name) × ((state old.directory).barred name → ⊥))
+  pub reason : (state old.directory).honest → IsFalse (has (state old.directory).contents.files name) → ((state old.directory).barred name → ⊥) → OnErr result ((state old.directory).may_fail Store)
+  pub possible : (state old.directory).honest → IsFalse (has (state old.directory).contents.files name) → new.impossible.count ≡ old.impossible.count
   pub grows : old.impossible.count ≤ new.impossible.count
   pub rest : new ≡ record old { impossible = new.impossible }
 
@@ -67,6 +74,13 @@ FailsToReadFile state old new name result =
 pub record Blames (old new : DirectoryState) (Can : Type 0) (result : Result (Unit {0}) StoreFault) : Type 0 where
   pub reason : old.honest → Can → OnErr result (old.may_fail Store ⊎ (old.failures < new.failures))
   pub unfailed : OnOk result (new.failures ≡ old.failures)
+
+-- something other than a file has the new name
+abbrev pub IsBlocked : DirectoryState → Change → Type 0
+IsBlocked it (Write name bytes) = it.barred name
+IsBlocked it (Replace name bytes) = ⊥
+IsBlocked it (Rename from to) = it.barred to
+IsBlocked it (Remove name) = ⊥
 
 -- nothing other than a file is at the location or at the path of the temporary file
 abbrev pub CanPut : DirectoryState → Location → Type 0
@@ -103,27 +117,29 @@ pub record HoldsDirectory {D : Type 0} (state : D → DirectoryState) (old new :
   pub rest : new ≡ record old { directory = new.directory; is_entered = old.is_entered || is_ok result }
 
 -- `make_temporary`: the temporary file is written, and its bytes are durable; the files and the journal stay
-pub record MakesTemporary (old new : DirectoryState) (bytes : List ℕ) (result : Result (Unit {0}) StoreFault) : Type 0 where
-  pub honest : old.honest → new.honest
-  pub alone : old.alone → new.alone
-  pub written : old.honest → OnOk result (new.temporary ≡ Some bytes)
-  pub same : old.honest → new.contents ≡ old.contents
-  pub barred : old.honest → NoMore old.barred new.barred
-  pub remains : old.honest → NoMore old.crash_states new.crash_states
-  pub kept : old.honest → OnOk result (AreKept new.temporary_crash_states (Some bytes))
-  pub blames : Blames old new (IsFree old location.Temporary) result
+pub record MakesTemporary {D : Type 0} (state : D → DirectoryState) (old new : D) (bytes : List ℕ) (result : Result (Unit {0}) StoreFault) : Type 0 where
+  pub honest : (state old).honest → (state new).honest
+  pub alone : (state old).alone → (state new).alone
+  pub written : (state old).honest → OnOk result ((state new).temporary ≡ Some bytes)
+  pub same : (state old).honest → (state new).contents ≡ (state old).contents
+  pub barred : (state old).honest → NoMore (state old).barred (state new).barred
+  pub blocked : (state old).honest → (state old).barred (path_of location.Temporary) → IsErr result × (new ≡ old)
+  pub remains : (state old).honest → NoMore (state old).crash_states (state new).crash_states
+  pub kept : (state old).honest → OnOk result (AreKept (state new).temporary_crash_states (Some bytes))
+  pub blames : Blames (state old) (state new) (IsFree (state old) location.Temporary) result
 
--- `write_at`: a file or the journal is written, over an existing one
+-- `write_at`: a file or the journal is written, over an existing one; something that isn't a file makes the call fail
 pub record WritesAt {D : Type 0} (state : D → DirectoryState) (old new : DiskStore D) (at : Location) (bytes : List ℕ) (result : Result (Unit {0}) StoreFault) : Type 0 where
   pub writes : Writes (over state) old new (put_at (state old.directory).contents at bytes) result
+  pub barred : (state old.directory).honest → (state old.directory).barred (path_of at) ⊎ (state old.directory).barred (path_of location.Temporary) → IsErr result × (new.directory ≡ old.directory)
   pub blames : Blames (state old.directory) (state new.directory) (CanPut (state old.directory) at) result
   pub rest : new ≡ record old { directory = new.directory }
 
--- the directory is held alone, and a change is made. One that can't be made leaves the contents as they are
+-- a change is made while the directory is held alone. One that can't be made or is blocked leaves the directory as it is
 pub record Changes {D : Type 0} (state : D → DirectoryState) (old new : DiskStore D) (change : Change) (result : Result (Unit {0}) StoreFault) : Type 0 where
   pub writes : Writes (over state) old new (with_change (state old.directory).contents change) result
-  pub impossible : (state old.directory).honest → IsFalse (is_applicable (state old.directory).contents.files change) → IsErr result × ((state new.directory).contents ≡ (state old.directory).contents)
+  pub blocked : (state old.directory).honest → IsFalse (is_applicable (state old.directory).contents.files change) ⊎ IsBlocked (state old.directory) change → IsErr result × (new.directory ≡ old.directory)
   pub possible : (state old.directory).honest → IsTrue (is_applicable (state old.directory).contents.files change) → new.impossible.count ≡ old.impossible.count
   pub grows : old.impossible.count ≤ new.impossible.count
-  pub fails : FailsToMake state old new change result
-  pub rest : new ≡ record old { directory = new.directory; impossible = new.impossible; is_entered = new.is_entered }
+  pub blames : Blames (state old.directory) (state new.directory) (CanMake (state old.directory) change) result
+  pub rest : new ≡ record old { directory = new.directory; impossible = new.impossible }

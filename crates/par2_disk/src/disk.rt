@@ -1,9 +1,9 @@
 //! A store over a directory. Reading calls share the directory with other readers. A writing call holds it alone (`hold`
-//! also checks, once, that the journal is the one that was read) and makes one change (`write_new`, `replace_file`,
-//! `rename_file`, `remove_file`, `write_at`). Then it is counted (`counted_write`).
-ghost use Rattle.std.specs.Prelude.{◌≡◌, ◌+◌, false, true};
+//! also checks, once, that the journal is the one that was read), makes one change (`write_new`, `replace_file`,
+//! `rename_file`, `remove_file`, `write_at`), and is counted (`counted_write`).
+ghost use Rattle.std.specs.Prelude.{◌≡◌, ◌+◌};
 ghost use Rattle.par2_spec.specs.Changes.{Write, Replace, Rename, Remove};
-ghost use Rattle.par2_disk.specs.Disk.{over, Changes, FailsToReadFile, FindsAs, HasSeenAsMuch, HoldsDirectory, IsNew, MakesTemporary, RemembersJournal, ReportsFree, WritesAt};
+ghost use Rattle.par2_disk.specs.Disk.{over, Changes, FailsToReadFile, FindsFile, FindsNothing, HasSeenAsMuch, HoldsDirectory, IsNew, MakesTemporary, RemembersJournal, ReportsFree, WritesAt};
 ghost use Rattle.par2_disk.specs.Stores.{CountsFailures, CountsReadFailures, ReadsFile, ReadsJournal};
 
 use crate::current::CurrentDirectory;
@@ -72,7 +72,7 @@ fn make_temporary<D: Directory>(
     bytes: &[u8],
 ) -> Result<(), StoreFault>
     requires { (D.state directory.old).alone }
-    ensures { MakesTemporary (D.state directory.old) (D.state directory.new) bytes.now result }
+    ensures { MakesTemporary D.state directory.old directory.new bytes.now result }
 {
     if !is_free(directory, Location::Temporary) {
         return Err(StoreFault);
@@ -109,7 +109,7 @@ impl<D: Directory> DiskStore<D> {
 
     // The size of the named file, for a call that needs one. If there is none, the call can't be done.
     fn find_file(&mut self, name: &Name) -> Result<u64, StoreFault>
-        ensures { FindsAs D.state self.old self.new name.now true result }
+        ensures { FindsFile D.state self.old self.new name.now result }
     {
         match self.directory.find(Location::File(name))? {
             Found::File(size) => Ok(size),
@@ -119,7 +119,7 @@ impl<D: Directory> DiskStore<D> {
 
     // Checks that nothing has the name, for a write or a rename to it. If a file has it, the call can't be done.
     fn find_nothing(&mut self, name: &Name) -> Result<(), StoreFault>
-        ensures { FindsAs D.state self.old self.new name.now false result }
+        ensures { FindsNothing D.state self.old self.new name.now result }
     {
         match self.directory.find(Location::File(name))? {
             Found::Nothing => Ok(()),
@@ -146,43 +146,43 @@ impl<D: Directory> DiskStore<D> {
     // Writes a file under a name that nothing has. If another file gets the name meanwhile, it isn't overwritten.
     #[tactic(auto, unfolding(par2_spec::specs::Changes::is_applicable, par2_spec::specs::Changes::effect))]
     fn write_new(&mut self, name: &Name, bytes: &[u8]) -> Result<(), StoreFault>
+        requires { (D.state self.old.directory).alone }
         ensures { Changes D.state self.old self.new (Write name.now bytes.now) result }
     {
-        self.hold()?;
         self.find_nothing(name)?;
         make_temporary(&mut self.directory, Location::File(name), bytes)?;
         self.directory.name_temporary(Location::File(name))?;
         self.directory.sync()
     }
 
-    // Replaces the bytes of a file. If no file has the name, the call can't be done.
+    // Replaces the bytes of a file, while the directory is held alone. If no file has the name, the call can't be done.
     #[tactic(auto, unfolding(par2_spec::specs::Changes::is_applicable))]
     fn replace_file(&mut self, name: &Name, bytes: &[u8]) -> Result<(), StoreFault>
+        requires { (D.state self.old.directory).alone }
         ensures { Changes D.state self.old self.new (Replace name.now bytes.now) result }
     {
-        self.hold()?;
         let _size = self.find_file(name)?;
         self.write_at(Location::File(name), bytes)
     }
 
-    // Renames a file to a name that nothing has, and syncs the directory.
+    // Renames a file to a name that nothing has, while the directory is held alone, and syncs the directory.
     #[tactic(auto, unfolding(par2_spec::specs::Changes::is_applicable))]
     fn rename_file(&mut self, from: &Name, to: &Name) -> Result<(), StoreFault>
+        requires { (D.state self.old.directory).alone }
         ensures { Changes D.state self.old self.new (Rename from.now to.now) result }
     {
-        self.hold()?;
         let _size = self.find_file(from)?;
         self.find_nothing(to)?;
         self.directory.rename(from, to)?;
         self.directory.sync()
     }
 
-    // Removes a file, and syncs the directory.
+    // Removes a file, while the directory is held alone, and syncs the directory.
     #[tactic(auto, unfolding(par2_spec::specs::Changes::is_applicable))]
     fn remove_file(&mut self, name: &Name) -> Result<(), StoreFault>
+        requires { (D.state self.old.directory).alone }
         ensures { Changes D.state self.old self.new (Remove name.now) result }
     {
-        self.hold()?;
         let _size = self.find_file(name)?;
         self.directory.remove(name)?;
         self.directory.sync()
@@ -311,7 +311,10 @@ impl<D: Directory> FolderStore for DiskStore<D> {
         ensures made { Makes (over D.state) self.old self.new (Write name.now bytes.now) result }
         ensures reason { FailsToMake D.state self.old self.new (Write name.now bytes.now) result }
     {
-        let answer = self.write_new(name, bytes);
+        let answer = match self.hold() {
+            Ok(()) => self.write_new(name, bytes),
+            Err(fault) => Err(fault),
+        };
         self.counted_write(answer)
     }
 
@@ -319,7 +322,10 @@ impl<D: Directory> FolderStore for DiskStore<D> {
         ensures made { Makes (over D.state) self.old self.new (Replace name.now bytes.now) result }
         ensures reason { FailsToMake D.state self.old self.new (Replace name.now bytes.now) result }
     {
-        let answer = self.replace_file(name, bytes);
+        let answer = match self.hold() {
+            Ok(()) => self.replace_file(name, bytes),
+            Err(fault) => Err(fault),
+        };
         self.counted_write(answer)
     }
 
@@ -327,7 +333,10 @@ impl<D: Directory> FolderStore for DiskStore<D> {
         ensures made { Makes (over D.state) self.old self.new (Rename from.now to.now) result }
         ensures reason { FailsToMake D.state self.old self.new (Rename from.now to.now) result }
     {
-        let answer = self.rename_file(from, to);
+        let answer = match self.hold() {
+            Ok(()) => self.rename_file(from, to),
+            Err(fault) => Err(fault),
+        };
         self.counted_write(answer)
     }
 
@@ -335,7 +344,10 @@ impl<D: Directory> FolderStore for DiskStore<D> {
         ensures made { Makes (over D.state) self.old self.new (Remove name.now) result }
         ensures reason { FailsToMake D.state self.old self.new (Remove name.now) result }
     {
-        let answer = self.remove_file(name);
+        let answer = match self.hold() {
+            Ok(()) => self.remove_file(name),
+            Err(fault) => Err(fault),
+        };
         self.counted_write(answer)
     }
 
