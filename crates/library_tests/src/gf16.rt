@@ -1,7 +1,7 @@
 ghost use Rattle.std.specs.Prelude.{◌≡◌, ◌≤◌, ◌*◌, ◌%◌, length};
 
 use crate::plain_field::product;
-use par2_gf16::{Columns, Factor, Gf};
+use par2_gf16::{Columns, Factor, Gf, WordVector};
 use std::process::Abort;
 
 pub(super) fn field(rt: &(impl Abort + AllocGlobal)) -> Gf {
@@ -167,7 +167,7 @@ fn add_columns(
     gf.mul_add_columns(&Factor::new(c), &columns, dst);
 }
 
-// Whether the element, the factor, the columns and a butterfly give what the word by word sum gives on a copy of `dst`.
+// Whether the element, the factor, the columns and the vectors give what the word by word sum gives on a copy of `dst`.
 fn is_as_word_by_word(
     rt: &(impl Abort + AllocGlobal),
     gf: &Gf,
@@ -182,18 +182,35 @@ fn is_as_word_by_word(
     by_element(rt, gf, c, src, dst) == wanted
         && by_factor(rt, gf, c, src, dst) == wanted
         && by_columns(rt, gf, c, src, dst) == wanted
-        && is_butterfly(rt, gf, c, dst, src)
+        && by_vectors(rt, c, src, dst) == wanted
 }
 
-// Whether a butterfly adds the products to a copy of `low`, and the sums to a copy of `high`.
-fn is_butterfly(rt: &(impl Abort + AllocGlobal), gf: &Gf, c: u16, low: &[u8], high: &[u8]) -> bool
-    requires same { length high.now ≡ length low.now }
-    requires even { length low.now % 2 ≡ 0 }
+// The vectors of the words of `bytes`, padded with zeros.
+fn vectors_of(rt: &(impl Abort + AllocGlobal), bytes: &[u8]) -> Vec<WordVector> {
+    let mut padded = copied(rt, bytes);
+    for _ in 0..63 {
+        if padded.len() % 64 != 0 {
+            padded.push(0).expect(rt, "memory");
+        }
+    }
+    let mut vectors = Vec::new(rt.alloc());
+    for k in 0..padded.len() / 64 {
+        vectors
+            .push(WordVector::from_bytes(&padded, 64 * k))
+            .expect(rt, "memory");
+    }
+    vectors
+}
+
+fn by_vectors(rt: &(impl Abort + AllocGlobal), c: u16, src: &[u8], dst: &[u8]) -> Vec<u8>
+    requires { length dst.now % 2 ≡ 0 }
 {
-    let mut lower = copied(rt, low);
-    let mut upper = copied(rt, high);
-    gf.butterfly(&Factor::new(c), &mut lower, &mut upper);
-    lower == by_words(rt, c, high, low) && upper == by_element(rt, gf, 1, &lower, high)
+    let mut sum = copied(rt, dst);
+    let vectors = vectors_of(rt, src);
+    if sum.len() <= 64 * vectors.len() {
+        Factor::new(c).add_products(&vectors, &mut sum);
+    }
+    sum
 }
 
 // The last four are random.

@@ -1,12 +1,13 @@
 -- A block of words, in bytes and in lanes.
-use Rattle.par2_gf16.proofs.Common.{ℕ, zero, suc, ◌+◌, ◌-◌, ◌*◌, ◌/◌, ◌%◌, ◌^◌, ◌<◌, ◌≤◌, ◌≡◌, refl, sym, ap, ap₂, ◌∙◌, subst, arith, List, [], ◌∷◌, ◌++◌, map, flat_map, length, get_or, eqb, ◌&&◌, inl, inr, true, w8, Fits, bit_and, replicate, cases_lt, eqb-true, and_parts, and_mask, get_or-map, length-map, get_or_append_left, get_or-append_right, ext_get_or, Each1-get_or, Each1-from_get_or, below_from_Fits, length-chunk, get_or_wider, chunk-fits, zip2_splat, get_or-chunk, get_or-put_chunk_below, get_or-put_chunk_at, get_or-put_chunk_above, length-put_chunk, get_or-zip2, length-zip2, get_or-swz_l_below, length-swz_l, swz_l, SwzOk, SwzOk-from_below, range_with_len, bit_xor, mul, word, tested, tested_at, product-lt, AddsWithin, IsTable, IsInterleaving, AddsLanes, lane_of}
-use Rattle.std.proofs.lemmas.List.{length-append}
+use Rattle.par2_gf16.proofs.Common.{ℕ, zero, suc, ◌+◌, ◌-◌, ◌*◌, ◌/◌, ◌%◌, ◌^◌, ◌<◌, ◌≤◌, ◌≡◌, refl, sym, ap, ap₂, ◌∙◌, subst, arith, List, [], ◌∷◌, ◌++◌, map, flat_map, length, get_or, eqb, ◌&&◌, inl, inr, true, w8, Fits, bit_and, replicate, cases_lt, eqb-true, and_parts, and_mask, get_or-map, length-map, get_or_append_left, get_or-append_right, ext_get_or, Each1-get_or, Each1-from_get_or, below_from_Fits, length-chunk, get_or_wider, chunk-fits, zip2_splat, get_or-chunk, get_or-put_chunk_below, get_or-put_chunk_at, get_or-put_chunk_above, length-put_chunk, get_or-zip2, length-zip2, get_or-swz_l_below, length-swz_l, swz_l, SwzOk, SwzOk-from_below, range_with_len, bit_xor, mul, word, tested, tested_at, AddsEach, IsTable, IsInterleaving, AddsLanes, in_lane, lane_of, word_in, word_of, take, drop}
+use Rattle.std.proofs.lemmas.List.{length-append, get_or-take, get_or-drop}
+use Rattle.par2_gf16.specs.declared.vectors.WordVector.{WordVector}
 use Rattle.std.proofs.lemmas.List.FromFn.{get_or-map-range_with_len, length-map-range_with_len}
 use Rattle.std.proofs.lemmas.Bool.{ltb-true}
 use Rattle.std.proofs.Math.Dec.{ltb}
 use lib.Lanes.{number_l, digits_l, zip2, Each1, chunk, put_chunk, pick_l}
 use Rattle.par2_gf16.proofs.LaneLaws.{map_all}
-use Rattle.par2_gf16.proofs.WordLaws.{word_once, word_xor}
+use Rattle.par2_gf16.proofs.WordLaws.{word_xor}
 
 -- ---- words and their bytes
 
@@ -41,6 +42,9 @@ pub lane : (j : ℕ) → j < 32 → (lane_of (lane_of j) ≡ j) × (lane_of j < 
 lane j h =
     let parts = and_parts (eqb (lane_of (lane_of j)) j) (ltb (lane_of j) 32) (tested_at (λ i. eqb (lane_of (lane_of i)) i && ltb (lane_of i) 32) 32 j test_lanes h) in
     (eqb-true _ _ parts.0, ltb-true _ _ parts.1)
+
+lane_within : (j : ℕ) (lanes : List ℕ) → j < 32 → length lanes ≡ 32 → lane_of j < length lanes
+lane_within j lanes h many = subst (λ k. lane_of j < k) (sym many) (lane j h).1
 
 abbrev pub exchange : List ℕ → List ℕ
 exchange v = map (λ j. get_or v (lane_of j) 0) (range_with_len 0 32)
@@ -193,87 +197,73 @@ both_added old mid new first second at one two = record {
           )
     ]
 
--- ---- a block's products
+-- ---- the words of two vectors
 
--- the bytes are those of the products of c and the m words from word n on
-pub record AreProducts (c : ℕ) (src : List ℕ) (n m : ℕ) (bytes : List ℕ) : Type 0 where
-  pub fit : (j : ℕ) → j < m → mul c (word (n + j) src) < 65536
-  pub low : (j : ℕ) → j < m → get_or bytes (2 * j) 0 ≡ mul c (word (n + j) src) % 256
-  pub high : (j : ℕ) → j < m → get_or bytes (2 * j + 1) 0 ≡ mul c (word (n + j) src) / 256
-
-word_in : (bytes : List ℕ) (n j : ℕ) → word (n + j) bytes ≡ get_or bytes (2 * n + 2 * j) 0 + 256 * get_or bytes (2 * n + (2 * j + 1)) 0
-word_in bytes n j =
+two_bytes : (bytes : List ℕ) (n j : ℕ) → word (n + j) bytes ≡ get_or bytes (2 * n + 2 * j) 0 + 256 * get_or bytes (2 * n + (2 * j + 1)) 0
+two_bytes bytes n j =
     let even : 2 * (n + j) ≡ 2 * n + 2 * j = omega arith in
     let odd : 2 * (n + j) + 1 ≡ 2 * n + (2 * j + 1) = omega arith in
     ap₂ (λ x y. get_or bytes x 0 + 256 * get_or bytes y 0) even odd
 
-product_fits : (c : ℕ) (src : List ℕ) (i : ℕ) → c < 65536 → ((k : ℕ) → get_or src k 0 < 256) → mul c (word i src) < 65536
-product_fits c src i hc fit = product-lt c (word i src) hc (omega (arith, fit (2 * i), fit (2 * i + 1)))
+-- the sum of two words, byte by byte
+xor_words : (a b l h : ℕ) → a < 256 → b < 256 → l < 256 → h < 256 → bit_xor a l + 256 * bit_xor b h ≡ bit_xor (a + 256 * b) (l + 256 * h)
+xor_words a b l h ha hb hl hh =
+    ap₂ (λ x y. bit_xor a x + 256 * bit_xor b y) (let e : l ≡ (l + 256 * h) % 256 = omega arith in e) (let e : h ≡ (l + 256 * h) / 256 = omega arith in e)
+    ∙ word_xor a b (l + 256 * h) ha hb (omega arith)
 
-pub block_added : (c m : ℕ) (src old new bytes : List ℕ) (n : ℕ) → AreProducts c src n m bytes → AddsLanes old new (2 * n) (2 * m) bytes → AddsWithin c src old new n (n + m)
-block_added c m src old new bytes n products added = record {
+pub block_added : (low high old new bytes : List ℕ) (n : ℕ) → ((i : ℕ) → get_or low i 0 < 256) → ((i : ℕ) → get_or high i 0 < 256) → IsInterleaving low high bytes → AddsLanes old new (2 * n) 64 bytes
+    → AddsEach (λ i. in_lane low high (i - n)) old new n (n + 32)
+block_added low high old new bytes n lows highs woven added = record {
   same_length = added.others.same_length;
-  inside = λ i g l room. subst (λ k. word k new ≡ bit_xor (word k old) (mul c (word k src))) (let e : n + (i - n) ≡ i = omega arith in e) (go (i - n) (omega arith));
+  inside = λ i g l room. subst (λ k. word k new ≡ bit_xor (word k old) (in_lane low high (i - n))) (let e : n + (i - n) ≡ i = omega arith in e) (go (i - n) (omega arith));
   below = λ i h. ap₂ (λ x y. x + 256 * y) (added.others.below (2 * i) (omega arith)) (added.others.below (2 * i + 1) (omega arith));
   above = λ i h. ap₂ (λ x y. x + 256 * y) (added.others.above (2 * i) (omega arith)) (added.others.above (2 * i + 1) (omega arith));
 }
   where
-    go : (j : ℕ) → j < m → word (n + j) new ≡ bit_xor (word (n + j) old) (mul c (word (n + j) src))
+    go : (j : ℕ) → j < 32 → word (n + j) new ≡ bit_xor (word (n + j) old) (in_lane low high j)
     go j h =
-        let low = get_or old (2 * n + 2 * j) 0 in
-        let high = get_or old (2 * n + (2 * j + 1)) 0 in
-        word_in new n j
+        let a = get_or old (2 * n + 2 * j) 0 in
+        let b = get_or old (2 * n + (2 * j + 1)) 0 in
+        two_bytes new n j
         ∙ ap₂ (λ x y. x + 256 * y)
-        (added.each (2 * j) (omega arith) ∙ ap (bit_xor low) (products.low j h))
-        (added.each (2 * j + 1) (omega arith) ∙ ap (bit_xor high) (products.high j h))
-        ∙ word_xor low high (mul c (word (n + j) src)) (added.fit (2 * j) (omega arith)) (added.fit (2 * j + 1) (omega arith)) (products.fit j h)
-        ∙ ap (λ x. bit_xor x (mul c (word (n + j) src))) (sym (word_in old n j))
+        (added.each (2 * j) (omega arith) ∙ ap (bit_xor a) (woven.lows j h))
+        (added.each (2 * j + 1) (omega arith) ∙ ap (bit_xor b) (woven.highs j h))
+        ∙ xor_words a b (get_or low (lane_of j) 0) (get_or high (lane_of j) 0) (added.fit (2 * j) (omega arith)) (added.fit (2 * j + 1) (omega arith)) (lows (lane_of j)) (highs (lane_of j))
+        ∙ ap (λ x. bit_xor x (in_lane low high j)) (sym (two_bytes old n j))
 
--- words themselves, which are their products with 1
-pub bytes_in_two : (src : List ℕ) (n : ℕ) (first second : List ℕ) → 2 * n + 64 ≤ length src → ((i : ℕ) → get_or src i 0 < 256)
-    → first ≡ chunk (2 * n) 32 src → second ≡ chunk (2 * n + 32) 32 src → AreProducts 1 src n 32 (first ++ second)
-bytes_in_two src n first second room fits one two = record {
-  fit = λ j h. product_fits 1 src (n + j) (omega arith) fits;
-  low = λ j h.
-      let low : get_or src (2 * n + 2 * j) 0 ≡ word (n + j) src % 256 = omega (arith, word_in src n j, fits (2 * n + 2 * j)) in
-      byte (2 * j) (omega arith) ∙ low ∙ ap (λ x. x % 256) (sym (word_once src (n + j) fits));
-  high = λ j h.
-      let high : get_or src (2 * n + (2 * j + 1)) 0 ≡ word (n + j) src / 256 = omega (arith, word_in src n j, fits (2 * n + 2 * j)) in
-      byte (2 * j + 1) (omega arith) ∙ high ∙ ap (λ x. x / 256) (sym (word_once src (n + j) fits));
-}
-  where
-    count : length first ≡ 32
-    count = ap length one ∙ length-chunk (2 * n) 32 src (omega arith)
+-- the words of a block, from their lanes
+pub lane_word : (low high bytes : List ℕ) → IsInterleaving low high (take 64 bytes) → (j : ℕ) → j < 32 → in_lane low high j ≡ word j bytes
+lane_word low high bytes woven j h =
+    ap₂ (λ x y. x + 256 * y) (sym (woven.lows j h) ∙ get_or-take 64 bytes (2 * j) 0 (omega arith)) (sym (woven.highs j h) ∙ get_or-take 64 bytes (2 * j + 1) 0 (omega arith))
 
-    byte : (k : ℕ) → k < 64 → get_or (first ++ second) k 0 ≡ get_or src (2 * n + k) 0
-    byte k h = elim (cases_lt k 32) [
-      | inl l ↦ get_or_append_left first second 0 k (omega (arith, count)) ∙ ap (λ xs. get_or xs k 0) one ∙ get_or-chunk (2 * n) 32 src k 0 l
-      | inr g ↦
-          get_or-append_right first second 32 k 0 count g ∙ ap (λ xs. get_or xs (k - 32) 0) two ∙ get_or-chunk (2 * n + 32) 32 src (k - 32) 0 (omega arith)
-          ∙ ap (λ i. get_or src i 0) (let e : 2 * n + 32 + (k - 32) ≡ 2 * n + k = omega arith in e)
-    ]
+pub lane_word_from : (low high bytes : List ℕ) (n : ℕ) → IsInterleaving low high (take 64 (drop (2 * n) bytes)) → (i : ℕ) → n ≤ i → i < n + 32 → in_lane low high (i - n) ≡ word i bytes
+lane_word_from low high bytes n woven i from to =
+    lane_word low high (drop (2 * n) bytes) woven (i - n) (omega arith)
+    ∙ ap₂ (λ x y. x + 256 * y)
+    (get_or-drop (2 * n) bytes (2 * (i - n)) 0 ∙ ap (λ k. get_or bytes k 0) (let e : 2 * n + 2 * (i - n) ≡ 2 * i = omega arith in e))
+    (get_or-drop (2 * n) bytes (2 * (i - n) + 1) 0 ∙ ap (λ k. get_or bytes k 0) (let e : 2 * n + (2 * (i - n) + 1) ≡ 2 * i + 1 = omega arith in e))
 
--- products whose bytes were looked up
-pub products_in_bytes : (c : ℕ) (src low high lows highs bytes : List ℕ) (n : ℕ) → c < 65536 → ((i : ℕ) → Fits w8 (get_or src i 0))
-    → IsInterleaving low high (chunk (2 * n) 64 src)
-    → lows ≡ zip2 (λ l h. mul c (l + 256 * h) % 256) low high → highs ≡ zip2 (λ l h. mul c (l + 256 * h) / 256) low high
-    → IsInterleaving lows highs bytes → AreProducts c src n 32 bytes
-products_in_bytes c src low high lows highs bytes n hc fits from el eh to = record {
-  fit = λ j h. product_fits c src (n + j) hc (λ k. (fits k).fits);
-  low = λ j h. to.lows j h ∙ ap (λ xs. get_or xs (lane_of j) 0) el
-      ∙ get_or-zip2 (λ l h. mul c (l + 256 * h) % 256) low high (lane_of j) 0 0 0 (within j h from.low_count) (within j h from.high_count)
-      ∙ ap (λ x. mul c x % 256) (word_is j h);
-  high = λ j h. to.highs j h ∙ ap (λ xs. get_or xs (lane_of j) 0) eh
-      ∙ get_or-zip2 (λ l h. mul c (l + 256 * h) / 256) low high (lane_of j) 0 0 0 (within j h from.low_count) (within j h from.high_count)
-      ∙ ap (λ x. mul c x / 256) (word_is j h);
-}
-  where
-    within : (j : ℕ) {m : ℕ} → j < 32 → m ≡ 32 → lane_of j < m
-    within j h many = subst (λ k. lane_of j < k) (sym many) (lane j h).1
+-- a product whose bytes were looked up
+pub product_in : (c : ℕ) (low high lows highs : List ℕ) → length low ≡ 32 → length high ≡ 32 → lows ≡ zip2 (λ l h. mul c (l + 256 * h) % 256) low high → highs ≡ zip2 (λ l h. mul c (l + 256 * h) / 256) low high
+    → (j : ℕ) → j < 32 → in_lane lows highs j ≡ mul c (in_lane low high j)
+product_in c low high lows highs ll lh el eh j h =
+    ap₂ (λ x y. x + 256 * y)
+    (ap (λ xs. get_or xs (lane_of j) 0) el ∙ get_or-zip2 (λ l t. mul c (l + 256 * t) % 256) low high (lane_of j) 0 0 0 (lane_within j low h ll) (lane_within j high h lh))
+    (ap (λ xs. get_or xs (lane_of j) 0) eh ∙ get_or-zip2 (λ l t. mul c (l + 256 * t) / 256) low high (lane_of j) 0 0 0 (lane_within j low h ll) (lane_within j high h lh))
+    ∙ (let e : mul c (in_lane low high j) % 256 + 256 * (mul c (in_lane low high j) / 256) ≡ mul c (in_lane low high j) = omega arith in e)
 
-    word_is : (j : ℕ) → j < 32 → get_or low (lane_of j) 0 + 256 * get_or high (lane_of j) 0 ≡ word (n + j) src
-    word_is j h =
-        ap₂ (λ x y. x + 256 * y)
-        (sym (from.lows j h) ∙ get_or-chunk (2 * n) 64 src (2 * j) 0 (omega arith))
-        (sym (from.highs j h) ∙ get_or-chunk (2 * n) 64 src (2 * j + 1) 0 (omega arith))
-        ∙ sym (word_in src n j)
+-- sums in lanes
+pub sum_in : (a b l h lows highs : List ℕ) → length a ≡ 32 → length b ≡ 32 → length l ≡ 32 → length h ≡ 32 → ((i : ℕ) → get_or a i 0 < 256) → ((i : ℕ) → get_or b i 0 < 256) → ((i : ℕ) → get_or l i 0 < 256) → ((i : ℕ) → get_or h i 0 < 256)
+    → lows ≡ zip2 bit_xor a l → highs ≡ zip2 bit_xor b h → (j : ℕ) → j < 32 → in_lane lows highs j ≡ bit_xor (in_lane a b j) (in_lane l h j)
+sum_in a b l h lows highs la lb ll lh fa fb fl fh el eh j k =
+    ap₂ (λ x y. x + 256 * y)
+    (ap (λ xs. get_or xs (lane_of j) 0) el ∙ get_or-zip2 bit_xor a l (lane_of j) 0 0 0 (lane_within j a k la) (lane_within j l k ll))
+    (ap (λ xs. get_or xs (lane_of j) 0) eh ∙ get_or-zip2 bit_xor b h (lane_of j) 0 0 0 (lane_within j b k lb) (lane_within j h k lh))
+    ∙ xor_words (get_or a (lane_of j) 0) (get_or b (lane_of j) 0) (get_or l (lane_of j) 0) (get_or h (lane_of j) 0) (fa (lane_of j)) (fb (lane_of j)) (fl (lane_of j)) (fh (lane_of j))
+
+-- a word of many vectors
+pub word_of_one : (vectors : List WordVector) (n i : ℕ) → 32 * n ≤ i → i < 32 * n + 32 → word_in (get_or vectors n (record { low = []; high = [] })) (i - 32 * n) ≡ word_of vectors i
+word_of_one vectors n i from to =
+    let at : n ≡ i / 32 = omega arith in
+    let place : i - 32 * n ≡ i % 32 = omega arith in
+    ap₂ (λ k j. word_in (get_or vectors k (record { low = []; high = [] })) j) at place

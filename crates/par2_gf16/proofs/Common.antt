@@ -6,12 +6,13 @@ pub use Rattle.std.proofs.lemmas.List.{ext_get_or, get_or-append_right, get_or-m
 pub use Rattle.std.proofs.lemmas.Nat.{and_mask, shr-shr, xor_block, xor_comm, xor_mod, xor_shr}
 pub use Rattle.std.proofs.lemmas.Nat.Bits.{and_pow}
 pub use Rattle.std.proofs.lemmas.Simd.{Each1-all, Each1-from_get_or, Each1-get_or, Each1-weaker, Each1-zip2, Each2-splat, SwzOk, SwzOk-from_below, below_from_Fits, chunk-fits, get_or-chunk, get_or-put_chunk_above, get_or-put_chunk_at, get_or-put_chunk_below, get_or-swz_l_below, get_or-zip2, get_or_wider, length-chunk, length-put_chunk, length-swz_l, length-zip2, map-map, pick_l_left, pick_l_whole, splat_is_map, swz_l, zip2-map, zip2_of_maps, zip2_splat}
-pub use Rattle.std.specs.Int.Bits.{xor_shifted, xor_zero_r}
+pub use Rattle.std.specs.Int.Bits.{xor_shifted, xor_zero_l, xor_zero_r}
 pub use Rattle.std.specs.List.{filter, range_with_len}
 pub use Rattle.std.specs.Prelude.{bit_xor, drop, take}
 pub use Rattle.par2_gf16.specs.Nibbles.{AreSplit, HasNibbles}
-pub use Rattle.par2_gf16.specs.Products.{AddsProducts, AddsWords, IsInverse}
-pub use Rattle.par2_gf16.specs.WordLoops.{AddsLanes, AddsWithin, AddsButterfly, IsInterleaving, IsTable, LanesSoFar, lane_of}
+pub use Rattle.par2_gf16.specs.Products.{AddsProducts, AddsTo, IsInverse}
+pub use Rattle.par2_gf16.specs.WordLoops.{AddsEach, AddsLanes, AddsWithin, IsInterleaving, IsTable, LanesSoFar, lane_of}
+pub use Rattle.par2_gf16.specs.Vectors.{in_lane, word_in, word_of}
 pub use Rattle.par2_gf16.specs.Tables.{AreTables, FirstRound, LogsBelow, PowersBelow, SecondRound}
 unfoldable pub use Rattle.par2_gf16.specs.Tables.{constants_below}
 pub use Rattle.par2_spec.proofs.FieldBits.{bit_cases, tested, tested_at, xor_shl}

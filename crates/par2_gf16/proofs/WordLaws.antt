@@ -1,5 +1,5 @@
 -- Words in bytes that are written.
-use Rattle.par2_gf16.proofs.Common.{ℕ, ◌+◌, ◌*◌, ◌/◌, ◌%◌, ◌^◌, ◌<◌, ◌≡◌, ◌≢◌, sym, ap, ap₂, ◌∙◌, subst, arith, List, length, get_or, set, length-set, get_or-set_same, get_or-set_other, xor_block, mul, product-one, product_comm, word, AddsWithin}
+use Rattle.par2_gf16.proofs.Common.{ℕ, ◌+◌, ◌*◌, ◌/◌, ◌%◌, ◌^◌, ◌<◌, ◌≡◌, ◌≢◌, sym, ap, ap₂, ◌∙◌, subst, arith, List, length, get_or, set, length-set, get_or-set_same, get_or-set_other, xor_block, word, AddsEach}
 use Rattle.std.specs.Int.RustNames.{bit_xor}
 
 two_writes : List ℕ → ℕ → ℕ → ℕ → List ℕ
@@ -27,10 +27,10 @@ word_xor r a p hr ha hp =
     (let h : bit_xor r (p % 256) + 256 * bit_xor a (p / 256) ≡ bit_xor a (p / 256) * 2 ^ 8 + bit_xor r (p % 256) = omega arith in h)
     ∙ sym g ∙ sym (ap₂ bit_xor e f)
 
-pub word_added : (c : ℕ) (src old : List ℕ) (i p : ℕ) → 2 * i + 1 < length old → (get_or old (2 * i) 0 < 256) × (get_or old (2 * i + 1) 0 < 256) → p < 65536 → p ≡ mul c (word i src)
-    → AddsWithin c src old (set (set old (2 * i) (bit_xor (get_or old (2 * i) 0) (p % 256))) (2 * i + 1) (bit_xor (get_or old (2 * i + 1) 0) (p / 256))) i (i + 1)
+pub word_added : (other : ℕ → ℕ) (old : List ℕ) (i p : ℕ) → 2 * i + 1 < length old → (get_or old (2 * i) 0 < 256) × (get_or old (2 * i + 1) 0 < 256) → p < 65536 → p ≡ other i
+    → AddsEach other old (set (set old (2 * i) (bit_xor (get_or old (2 * i) 0) (p % 256))) (2 * i + 1) (bit_xor (get_or old (2 * i + 1) 0) (p / 256))) i (i + 1)
 unfolding two_writes
-word_added c src old i p h fits small is =
+word_added other old i p h fits small is =
     let low = bit_xor (get_or old (2 * i) 0) (p % 256) in
     let high = bit_xor (get_or old (2 * i + 1) 0) (p / 256) in
     let new = two_writes old (2 * i) low high in
@@ -38,16 +38,10 @@ word_added c src old i p h fits small is =
       same_length = length-set (set old (2 * i) low) (2 * i + 1) high ∙ length-set old (2 * i) low;
       inside = λ k g l room.
           let e : k ≡ i = omega arith in
-          subst (λ j. word j new ≡ bit_xor (word j old) (mul c (word j src))) (sym e)
+          subst (λ j. word j new ≡ bit_xor (word j old) (other j)) (sym e)
           (ap₂ (λ x y. x + 256 * y) (low_written old (2 * i) low high h) (high_written old (2 * i) low high h)
           ∙ word_xor (get_or old (2 * i) 0) (get_or old (2 * i + 1) 0) p fits.0 fits.1 small
           ∙ ap (bit_xor (word i old)) is);
       below = λ k l. ap₂ (λ x y. x + 256 * y) (other_kept old (2 * i) low high (2 * k) (omega arith) (omega arith)) (other_kept old (2 * i) low high (2 * k + 1) (omega arith) (omega arith));
       above = λ k l. ap₂ (λ x y. x + 256 * y) (other_kept old (2 * i) low high (2 * k) (omega arith) (omega arith)) (other_kept old (2 * i) low high (2 * k + 1) (omega arith) (omega arith));
     }
-
--- a word is its product with 1
-pub word_once : (src : List ℕ) (i : ℕ) → ((k : ℕ) → get_or src k 0 < 256) → mul 1 (word i src) ≡ word i src
-word_once src i fit =
-    let small : word i src < 65536 = omega (arith, fit (2 * i), fit (2 * i + 1)) in
-    product_comm 1 (word i src) (omega arith) small ∙ product-one (word i src) small

@@ -8,12 +8,11 @@ pub record IsInverse (a b : ℕ) : Type 0 where
   pub is_one : mul a b ≡ 1
   pub only : (c : ℕ) → c < 2 ^ 16 → mul a c ≡ 1 → c ≡ b
 
--- to each word of old, the product of c and the word of src is added
-pub record AddsProducts (c : ℕ) (src old new : List ℕ) : Type 0 where
+-- to each word p, `other p` is added
+pub record AddsTo (other : ℕ → ℕ) (old new : List ℕ) : Type 0 where
   pub same_length : length new ≡ length old
-  pub each : (p : ℕ) → 2 * p + 1 < length old → word p new ≡ bit_xor (word p old) (mul c (word p src))
+  pub each : (p : ℕ) → 2 * p + 1 < length old → word p new ≡ bit_xor (word p old) (other p)
 
--- to each word of old, the word of src is added
-pub record AddsWords (src old new : List ℕ) : Type 0 where
-  pub same_length : length new ≡ length old
-  pub each : (p : ℕ) → 2 * p + 1 < length old → word p new ≡ bit_xor (word p old) (word p src)
+-- to each word, the product of c and the word of src is added
+abbrev pub AddsProducts : ℕ → List ℕ → List ℕ → List ℕ → Type 0
+AddsProducts c src = AddsTo (λ p. mul c (word p src))

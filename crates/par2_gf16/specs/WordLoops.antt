@@ -3,18 +3,16 @@ use Rattle.std.specs.Prelude.{ℕ, ◌+◌, ◌*◌, ◌^◌, ◌<◌, ◌≤◌
 use Rattle.par2_spec.specs.Field.{mul, pow}
 use Rattle.par2_spec.specs.Slices.{word}
 
--- words `from` up to `to` have the products added, and the others are unchanged
-pub record AddsWithin (c : ℕ) (src old new : List ℕ) (from to : ℕ) : Type 0 where
+-- to the words `from` up to `to`, `other i` is added to word i, and the others are unchanged
+pub record AddsEach (other : ℕ → ℕ) (old new : List ℕ) (from to : ℕ) : Type 0 where
   pub same_length : length new ≡ length old
-  pub inside : (i : ℕ) → from ≤ i → i < to → 2 * i + 1 < length old → word i new ≡ bit_xor (word i old) (mul c (word i src))
+  pub inside : (i : ℕ) → from ≤ i → i < to → 2 * i + 1 < length old → word i new ≡ bit_xor (word i old) (other i)
   pub below : (i : ℕ) → i < from → word i new ≡ word i old
   pub above : (i : ℕ) → to ≤ i → word i new ≡ word i old
 
--- words `from` up to `to` of `high` have their products with c added to `low`, and then the new words of `low`, which are
--- their products with 1, are added to `high`
-pub record AddsButterfly (c : ℕ) (low high new_low new_high : List ℕ) (from to : ℕ) : Type 0 where
-  pub lower : AddsWithin c high low new_low from to
-  pub upper : AddsWithin 1 new_low high new_high from to
+-- the words `from` up to `to` have the products added
+abbrev pub AddsWithin : ℕ → List ℕ → List ℕ → List ℕ → ℕ → ℕ → Type 0
+AddsWithin c src = AddsEach (λ i. mul c (word i src))
 
 -- after j steps over the lanes v: the low j bits of each lane have been multiplied by c
 pub record LanesSoFar (c : ℕ) (v sum rest : List ℕ) (k j : ℕ) : Type 0 where

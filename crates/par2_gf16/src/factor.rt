@@ -4,12 +4,15 @@
 ghost use Rattle.std.specs.Prelude.{◌≡◌, ℕ, ◌+◌, ◌*◌, ◌/◌, ◌%◌, ◌^◌, ◌<◌, ◌≤◌, List, length, slice_index, take, drop, bit_xor};
 ghost use Rattle.std.specs.Simd.Lanes.{zip2};
 ghost use Rattle.par2_spec.specs.Field.{mul};
-ghost use Rattle.par2_gf16.specs.WordLoops.{AddsWithin, AddsButterfly, IsTable};
+ghost use Rattle.par2_gf16.specs.WordLoops.{AddsWithin, IsTable};
 ghost use Rattle.par2_gf16.specs.Nibbles.{AreNibbles, HasNibbles};
+ghost use Rattle.par2_gf16.specs.Products.{AddsTo};
+ghost use Rattle.par2_gf16.specs.Vectors.{in_lane, word_in, word_of};
 
 use crate::doubling::doubled;
 use crate::lanes;
 use crate::nibbles::Nibbles;
+use crate::vectors::WordVector;
 use std::marker::Model;
 use std::simd::prelude::*;
 
@@ -117,6 +120,42 @@ impl Factor {
         )
     }
 
+    // The products of the element and the thirty-two words that have these nibbles.
+    #[inline(always)]
+    fn products(&self, nibbles: Nibbles) -> WordVector
+        ensures { (low high : List ℕ) → AreNibbles low high nibbles → length low ≡ 32 → length high ≡ 32
+            → (j : ℕ) → j < 32 → word_in result j ≡ mul self.now (in_lane low high j) }
+    {
+        WordVector {
+            low: self.lower_bytes(nibbles),
+            high: self.higher_bytes(nibbles),
+        }
+    }
+
+    /// The products of the element and each of the words.
+    #[inline(always)]
+    pub fn times(&self, words: WordVector) -> WordVector
+        ensures { (j : ℕ) → j < 32 → word_in result j ≡ mul self.now (word_in words j) }
+    {
+        self.products(Nibbles::new(words.low, words.high))
+    }
+
+    /// Adds the product of the element and each word of the vectors to the little-endian word of `dst` at the same
+    /// position, for as many words as `dst` has.
+    pub fn add_products(&self, vectors: &[WordVector], dst: &mut [u8])
+        requires enough { length dst.old ≤ 64 * length vectors.now }
+        requires even { length dst.old % 2 ≡ 0 }
+        ensures { AddsTo (λ p. mul self.now (word_of vectors.now p)) dst.old dst.new }
+    {
+        let whole = dst.len() / 64;
+        for k in 0..whole {
+            self.times(vectors[k]).add_to(dst, 32 * k);
+        }
+        if whole < vectors.len() {
+            self.times(vectors[whole]).add_first(dst, 32 * whole);
+        }
+    }
+
     /// Adds the element times each of the thirty-two words of `src` from word n on to the word of `dst` there.
     #[inline(always)]
     pub(crate) fn add_block(&self, src: &[u8], dst: &mut [u8], n: usize)
@@ -127,32 +166,14 @@ impl Factor {
         self.add_nibbles(nibbles_at(src, n), dst, n);
     }
 
-    /// The butterfly of the thirty-two words from word n on: adds the element times each of `high` to the word of `low`
-    /// there, and then each new one of `low` to the word of `high`.
-    #[inline(always)]
-    pub(crate) fn butterfly_block(&self, low: &mut [u8], high: &mut [u8], n: usize)
-        requires fits { 2 * n + 64 ≤ length low.old }
-        requires same { length high.old ≡ length low.old }
-        ensures { AddsButterfly self.now low.old high.old low.new high.new n (n + 32) }
-    {
-        self.add_nibbles(nibbles_at(high, n), low, n);
-        lanes::add_vector(high, 2 * n, lanes::vector_at(low, 2 * n));
-        lanes::add_vector(high, 2 * n + 32, lanes::vector_at(low, 2 * n + 32));
-    }
-
     /// Adds the element times thirty-two words, which have these nibbles, to the words of `dst` from word n on.
     #[inline(always)]
     pub(crate) fn add_nibbles(&self, nibbles: Nibbles, dst: &mut [u8], n: usize)
         requires fits { 2 * n + 64 ≤ length dst.old }
-        ensures { (src : List ℕ) → ((i : ℕ) → slice_index src i < 256)
-            → HasNibbles (take 64 (drop (2 * n) src)) nibbles
+        ensures { (src : List ℕ) → HasNibbles (take 64 (drop (2 * n) src)) nibbles
             → AddsWithin self.now src dst.old dst.new n (n + 32) }
     {
-        let lows = self.lower_bytes(nibbles);
-        let highs = self.higher_bytes(nibbles);
-        let (first, second) = lanes::interleaved(lows, highs);
-        lanes::add_vector(dst, 2 * n, first);
-        lanes::add_vector(dst, 2 * n + 32, second);
+        self.products(nibbles).add_to(dst, n);
     }
 }
 

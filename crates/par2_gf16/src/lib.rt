@@ -11,8 +11,10 @@ mod factor;
 mod lanes;
 mod nibbles;
 mod tables;
+mod vectors;
 mod words;
 
 pub use columns::Columns;
 pub use factor::Factor;
 pub use tables::Gf;
+pub use vectors::WordVector;

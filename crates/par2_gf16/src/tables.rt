@@ -2,7 +2,7 @@
 
 ghost use Rattle.std.specs.Prelude.{◌≡◌, ◌<◌, ◌≤◌, ◌↔◌, ◌+◌, ◌*◌, ◌/◌, ◌%◌, length, slice_index, IfOk, IfSome, IsNone};
 ghost use Rattle.par2_spec.specs.Field.{mul, pow, constant, is_coprime};
-ghost use Rattle.par2_gf16.specs.Products.{IsInverse, AddsProducts, AddsWords};
+ghost use Rattle.par2_gf16.specs.Products.{IsInverse, AddsProducts};
 ghost use Rattle.par2_gf16.specs.WordLoops.{AddsWithin};
 ghost use Rattle.par2_gf16.specs.Tables.{AreTables};
 
@@ -149,24 +149,6 @@ impl Gf {
             factor.add_block(src, dst, 32 * block);
         }
         self.add_words(factor.element(), src, dst, 32 * blocks, dst.len() / 2);
-    }
-
-    /// The butterfly of an additive FFT: adds the factor times each word of `high` to the word of `low` at the same
-    /// position, and then each new word of `low` to the word of `high`. One pass over the memory does both.
-    pub fn butterfly(&self, factor: &Factor, low: &mut [u8], high: &mut [u8])
-        requires same { length high.old ≡ length low.old }
-        requires even { length low.old % 2 ≡ 0 }
-        ensures low { AddsProducts factor.now high.old low.old low.new }
-        ensures high { AddsWords low.new high.old high.new }
-    {
-        let blocks = low.len() / 64;
-        for block in 0..blocks {
-            factor.butterfly_block(low, high, 32 * block);
-        }
-        let end = low.len() / 2;
-        self.add_words(factor.element(), high, low, 32 * blocks, end);
-        // A word is its product with 1.
-        self.add_words(1, low, high, 32 * blocks, end);
     }
 
     /// Adds the product of the factor and each word of the columns to the word of `dst` at the same position. Use it

@@ -1,7 +1,7 @@
 -- Additions to buffers.
-use Rattle.par2_transform.proofs.Common.{inl, inr, ℕ, suc, ◌+◌, ◌-◌, ◌*◌, ◌<◌, ◌≤◌, ◌≡◌, ◌≢◌, refl, sym, ap, ap₂, ◌∙◌, arith, Bool, true, false, List, ◌++◌, length, get_or, take, drop, bit_xor, zero, replicate, if◌then◌else◌, ◌&&◌, nat_le, nat_lt, slice_index, cases_lt, cases_eq, lt-ltb, le-ltb, le-leb, get_or-append_right, get_or_append_left, get_or-take, get_or-drop, length-take-le, length-drop, lt_of_le-ne, xor_assoc, xor_zero_r, xor_zero_l, word, list_at, OneChanged, field_sum, within, place_at, output_word, AddsAt, AddsTo, AddsToPart, AreApart, HasByte, LieWithin, Place}
+use Rattle.par2_transform.proofs.Common.{inl, inr, ℕ, suc, ◌+◌, ◌-◌, ◌*◌, ◌<◌, ◌≤◌, ◌≡◌, ◌≢◌, refl, sym, ap, ap₂, ◌∙◌, arith, Bool, true, false, List, ◌++◌, length, get_or, take, drop, bit_xor, if◌then◌else◌, ◌&&◌, nat_le, nat_lt, slice_index, cases_lt, cases_eq, lt-ltb, le-ltb, le-leb, get_or-append_right, get_or_append_left, get_or-take, get_or-drop, length-take-le, length-drop, lt_of_le-ne, xor_assoc, xor_zero_r, xor_zero_l, word, list_at, OneChanged, field_sum, within, place_at, output_word, AddsAt, AddsTo, AddsToPart, AreApart, HasByte, LieWithin, Place}
 use Rattle.std.proofs.lemmas.Bool.{lt-leb}
-use borrow.Rule.Slice.PartMut.{put_mid, same_len_mid, mid_len}
+use borrow.Rule.Slice.PartMut.{put_mid, same_len_mid}
 
 -- a word of the first bytes
 pub first_word : (n p : ℕ) (bytes : List ℕ) → 2 * p + 1 < n → word p (take n bytes) ≡ word p bytes
@@ -237,75 +237,62 @@ part_above a k i none xs ys high fits size =
     ∙ get_or-drop a xs (k + (i - a - k)) none
     ∙ ap (λ m. get_or xs m none) (let e : a + (k + (i - a - k)) ≡ i = omega arith in e)
 
--- the addition to a part of a buffer
-pub adds_within : (at words k : ℕ) (other : ℕ → ℕ) (bytes new : List ℕ) → k ≡ 2 * words → at + k ≤ length bytes → AddsTo other (take k (drop at bytes)) new
-    → AddsToPart at words other bytes (put_mid at k bytes new)
-adds_within at words k other bytes new size fits added = record {
-  same_length = same_len_mid at k bytes new added.same_length;
-  each = λ p low.
-      ap₂ (λ a b. a + 256 * b) (written (2 * p) (omega (arith, low, size))) (written (2 * p + 1) (omega (arith, low, size)))
-      ∙ added.each p (omega (arith, low, size, long))
-      ∙ ap (λ x. bit_xor x (other p)) (ap₂ (λ a b. a + 256 * b) (get_or-take k (drop at bytes) (2 * p) 0 (omega (arith, low, size))) (get_or-take k (drop at bytes) (2 * p + 1) 0 (omega (arith, low, size))));
-  before = λ i low. part_below at k i 0 bytes new low (omega (arith, fits));
-  behind = λ i high. part_above at k i 0 bytes new (omega (arith, high, size)) (omega (arith, fits)) new_size;
+-- the addition to some columns of an output, which begins at byte `at` of a buffer
+pub adds_columns : (at words from to start k : ℕ) (other : ℕ → ℕ) (bytes new : List ℕ) → from ≤ to → to ≤ words → at + 2 * words ≤ length bytes → start ≡ at + 2 * from → k ≡ 2 * to - 2 * from
+    → AddsTo other (take k (drop start bytes)) new → AddsToPart at words (λ p. within from to p (other (p - from))) bytes (put_mid start k bytes new)
+adds_columns at words from to start k other bytes new order inside fits begins size added = record {
+  same_length = same_len_mid start k bytes new added.same_length;
+  each = λ p low. elim (cases_lt p from) [
+    | inl below ↦ unchanged p (λ i b. left (at + i) (omega (arith, begins, below, b))) ∙ nothing p (within-below from to p (other (p - from)) below)
+    | inr from_here ↦ elim (cases_lt p to) [
+      | inl here ↦ written p (p - from) (omega arith) here ∙ ap (bit_xor (word p (drop at bytes))) (sym (within-in from to p (other (p - from)) from_here here))
+      | inr above ↦ unchanged p (λ i b. right (at + i) (omega (arith, begins, size, order, above, b))) ∙ nothing p (within-above from to p (other (p - from)) above)
+    ]
+  ];
+  before = λ i low. left i (omega (arith, begins, low));
+  behind = λ i high. right i (omega (arith, begins, size, order, inside, high));
 }
   where
-    long : length (take k (drop at bytes)) ≡ k
-    long = length-take-le k (drop at bytes) (let e = length-drop at bytes in omega (arith, e, fits))
+    long : length (take k (drop start bytes)) ≡ k
+    long = length-take-le k (drop start bytes) (let e = length-drop start bytes in omega (arith, e, fits, begins, size, order, inside))
 
     new_size : length new ≡ k
     new_size = added.same_length ∙ long
 
-    written : (i : ℕ) → i < k → get_or (drop at (put_mid at k bytes new)) i 0 ≡ get_or new i 0
-    written i low = get_or-drop at (put_mid at k bytes new) i 0 ∙ part_here at k i 0 bytes new low (omega (arith, fits)) new_size
+    room : start ≤ length bytes
+    room = omega (arith, fits, begins, order, inside)
 
--- f of the words at the front of a row, added to a part of a buffer
-pub adds_to_part : (f : ℕ → ℕ) (from to : ℕ) (row bytes new : List ℕ) → from ≤ to → 2 * to ≤ 2 * from + length row → 2 * to ≤ length bytes
-    → length new ≡ 2 * to - 2 * from
-    → ((p : ℕ) → 2 * p + 1 < 2 * to - 2 * from → word p new ≡ bit_xor (word p (take (2 * to - 2 * from) (drop (2 * from) bytes))) (f (word p (take (2 * (to - from)) row))))
-    → AddsTo (λ p. within from to p (f (word (p - from) row))) bytes (put_mid (2 * from) (2 * to - 2 * from) bytes new)
-adds_to_part f from to row bytes new order in_row in_bytes size each = record {
-  same_length = same_len_mid (2 * from) (2 * to - 2 * from) bytes new (size ∙ sym (mid_len (2 * from) (2 * to) bytes in_bytes));
-  each = λ p fits. elim (cases_lt p from) [
-    | inl below ↦
-        ap₂ (λ a b. a + 256 * b) (part_below (2 * from) k (2 * p) 0 bytes new (omega arith) (omega arith)) (part_below (2 * from) k (2 * p + 1) 0 bytes new (omega arith) (omega arith))
-        ∙ sym (ap (bit_xor (word p bytes)) (within-below from to p (f (word (p - from) row)) below) ∙ xor_zero_r (word p bytes))
-    | inr from_here ↦ elim (cases_lt p to) [
-      | inl here ↦ inside p (p - from) (omega arith) (omega arith)
-      | inr above ↦
-          ap₂ (λ a b. a + 256 * b) (part_above (2 * from) k (2 * p) 0 bytes new (omega arith) (omega arith) size) (part_above (2 * from) k (2 * p + 1) 0 bytes new (omega arith) (omega arith) size)
-          ∙ sym (ap (bit_xor (word p bytes)) (within-above from to p (f (word (p - from) row)) above) ∙ xor_zero_r (word p bytes))
-    ]
-  ];
-}
-  where
-    k : ℕ
-    k = 2 * to - 2 * from
+    left : (i : ℕ) → i < start → get_or (put_mid start k bytes new) i 0 ≡ get_or bytes i 0
+    left i low = part_below start k i 0 bytes new low room
 
-    inside : (p q : ℕ) → p ≡ from + q → p < to
-        → word p (put_mid (2 * from) k bytes new) ≡ bit_xor (word p bytes) (within from to p (f (word (p - from) row)))
-    inside p q place here =
-        let low : 2 * q + 1 < k = omega (arith, place) in
-        let back : p - from ≡ q = omega arith in
-        let written : word p (put_mid (2 * from) k bytes new) ≡ word q new =
-        ap₂ (λ a b. a + 256 * b)
-        (ap (λ m. get_or (put_mid (2 * from) k bytes new) m 0) (let e : 2 * p ≡ 2 * from + 2 * q = omega (arith, place) in e) ∙ part_here (2 * from) k (2 * q) 0 bytes new (omega arith) (omega arith) size)
-        (ap (λ m. get_or (put_mid (2 * from) k bytes new) m 0) (let e : 2 * p + 1 ≡ 2 * from + (2 * q + 1) = omega (arith, place) in e) ∙ part_here (2 * from) k (2 * q + 1) 0 bytes new (omega arith) (omega arith) size) in
-        let was : word q (take k (drop (2 * from) bytes)) ≡ word p bytes =
-        ap₂ (λ a b. a + 256 * b)
-        (get_or-take k (drop (2 * from) bytes) (2 * q) 0 (omega arith) ∙ get_or-drop (2 * from) bytes (2 * q) 0 ∙ ap (λ m. get_or bytes m 0) (let e : 2 * from + 2 * q ≡ 2 * p = omega (arith, place) in e))
-        (get_or-take k (drop (2 * from) bytes) (2 * q + 1) 0 low ∙ get_or-drop (2 * from) bytes (2 * q + 1) 0 ∙ ap (λ m. get_or bytes m 0) (let e : 2 * from + (2 * q + 1) ≡ 2 * p + 1 = omega (arith, place) in e)) in
-        let factor : word q (take (2 * (to - from)) row) ≡ word (p - from) row =
-        ap₂ (λ a b. a + 256 * b) (get_or-take (2 * (to - from)) row (2 * q) 0 (omega arith)) (get_or-take (2 * (to - from)) row (2 * q + 1) 0 (omega arith))
-        ∙ ap (λ m. word m row) (sym back) in
-        written ∙ each q low ∙ ap₂ (λ a b. bit_xor a (f b)) was factor ∙ ap (bit_xor (word p bytes)) (sym (within-in from to p (f (word (p - from) row)) (omega arith) here))
+    right : (i : ℕ) → start + k ≤ i → get_or (put_mid start k bytes new) i 0 ≡ get_or bytes i 0
+    right i high = part_above start k i 0 bytes new high room new_size
 
--- ---- zeros
+    unchanged : (p : ℕ) → ((i : ℕ) → (2 * p ≤ i) × (i ≤ 2 * p + 1) → get_or (put_mid start k bytes new) (at + i) 0 ≡ get_or bytes (at + i) 0) → word p (drop at (put_mid start k bytes new)) ≡ word p (drop at bytes)
+    unchanged p same =
+        word_from at p (put_mid start k bytes new)
+        ∙ ap₂ (λ a b. a + 256 * b) (same (2 * p) (omega arith, omega arith)) (same (2 * p + 1) (omega arith, omega arith))
+        ∙ sym (word_from at p bytes)
 
-pub zeros_read : (m i : ℕ) → get_or {A = ℕ} (replicate m 0) i 0 ≡ 0
-zeros_read zero i = refl
-zeros_read (suc m) zero = refl
-zeros_read (suc m) (suc i) = zeros_read m i
+    nothing : (p : ℕ) {x : ℕ} → x ≡ 0 → word p (drop at bytes) ≡ bit_xor (word p (drop at bytes)) x
+    nothing p none = sym (ap (bit_xor (word p (drop at bytes))) none ∙ xor_zero_r (word p (drop at bytes)))
+
+    written : (p q : ℕ) → p ≡ from + q → p < to → word p (drop at (put_mid start k bytes new)) ≡ bit_xor (word p (drop at bytes)) (other (p - from))
+    written p q place here =
+        let low : 2 * q + 1 < k = omega (arith, place, size, here) in
+        let even : at + 2 * p ≡ start + 2 * q = omega (arith, place, begins) in
+        let odd : at + (2 * p + 1) ≡ start + (2 * q + 1) = omega (arith, place, begins) in
+        word_from at p (put_mid start k bytes new)
+        ∙ ap₂ (λ a b. a + 256 * b)
+        (ap (λ m. get_or (put_mid start k bytes new) m 0) even ∙ part_here start k (2 * q) 0 bytes new (omega (arith, low)) room new_size)
+        (ap (λ m. get_or (put_mid start k bytes new) m 0) odd ∙ part_here start k (2 * q + 1) 0 bytes new low room new_size)
+        ∙ added.each q (omega (arith, low, long))
+        ∙ ap₂ bit_xor
+        (ap₂ (λ a b. a + 256 * b)
+        (get_or-take k (drop start bytes) (2 * q) 0 (omega (arith, low)) ∙ get_or-drop start bytes (2 * q) 0 ∙ ap (λ m. get_or bytes m 0) (sym even))
+        (get_or-take k (drop start bytes) (2 * q + 1) 0 low ∙ get_or-drop start bytes (2 * q + 1) 0 ∙ ap (λ m. get_or bytes m 0) (sym odd))
+        ∙ sym (word_from at p bytes))
+        (ap other (let e : q ≡ p - from = omega (arith, place) in e))
 
 -- what `auto` is given for the code
-pub ruleset steps = (adds_within)
+pub ruleset steps = (first_word, adds_columns)

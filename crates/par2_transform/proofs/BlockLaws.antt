@@ -123,7 +123,7 @@ next_block cut columns first size n e blocks block so_far is place = record {
 }
   where
     none : Outputs
-    none = record { exponent = 0; windows = 0; weights = []; sums = record { levels = 0; words = 0; bytes = [] } }
+    none = record { exponent = 0; windows = 0; weights = []; sums = record { levels = 0; words = 0; vectors = [] } }
 
     before : (j : ℕ) → j < n → outputs_at (blocks ++ block ∷ []) j ≡ outputs_at blocks j
     before j low = get_or_append_left blocks (block ∷ []) none j (let c = so_far.count in omega (arith, c))

@@ -29,22 +29,25 @@ unfoldable pub use Rattle.par2_spec.specs.Field.{coefficient, constant, constant
 pub use Rattle.par2_spec.specs.Slices.{word}
 pub use Rattle.par2_spec.specs.Sums.{GivesElements, OneChanged, list_at, lists_of}
 unfoldable pub use Rattle.par2_spec.specs.Sums.{field_sum}
-pub use Rattle.par2_gf16.specs.Products.{AddsWords}
-pub use Rattle.par2_transform.specs.Adding.{times, AddsAt, AddsBoth, AddsTo, AddsToEach, AddsToPart, AreApart, AreWholeBuffers, HasByte, HaveWords, LieWithin, output_word, place_at, within}
+pub use Rattle.par2_gf16.specs.Products.{AddsTo}
+pub use Rattle.par2_gf16.specs.Vectors.{word_in, word_of}
+pub use Rattle.par2_gf16.specs.declared.vectors.WordVector.{WordVector}
+pub use Rattle.par2_transform.specs.Adding.{row_size, row_word, times, AddsAt, AddsToEach, AddsToPart, AreApart, AreWholeBuffers, HasByte, HaveWords, LieWithin, output_word, place_at, within}
 pub use Rattle.par2_transform.specs.Blocks.{AreBlocks, AreWeightRows, BlocksBecome, CoverOutputs, EachBlock, Gathers, GathersWindow, HasShape, IsBlock, IsCleared, IsGathered, Keeps, Outputs, RowsGathered, Takes, outputs_at, class_sum_at, from_gathered, weight_at, AreReady, HaveShape, HaveShapes, cut_of, part_from}
 pub use Rattle.par2_transform.specs.Chirps.{AreWordsOfFirst, AreWeights, Tabulates, Cut, HasWeights, Reaches, class_part, coefficient_of, gathered, window_value}
 unfoldable pub use Rattle.par2_transform.specs.Chirps.{chirp, chirp_inverse, coprimes_below, triangle, word_at_power}
 pub use Rattle.par2_transform.specs.Columns.{AreByteLists, AreNumbers, recovered, byte_lists, words_at}
 pub use Rattle.par2_transform.specs.Combinations.{AreListedValues, IsListed, listed_by}
 pub use Rattle.par2_transform.specs.Evaluations.{AreZeroFrom, AreValues, from, value}
-pub use Rattle.par2_transform.specs.Grids.{AreCopied, AreRows, AreTwoRuns, CopiesWords, EachColumn, Grid, HasSize, IsAdded, IsPair, IsRun, column}
+pub use Rattle.par2_transform.specs.Grids.{AreCopied, AreRewritten, AreRows, AreTwoRuns, CopiesVectors, EachColumn, Grid, HasSize, IsAdded, IsPair, IsRun, column}
 pub use Rattle.par2_transform.specs.Locators.{AreNumbered, AreNumerators, AreValuesOf, HaveFirst, IsWeighed, in_coset, numerator, quotient_coefficient, quotient_sum}
 pub use Rattle.par2_transform.specs.Products.{numerator_word, quotient_word}
 pub use Rattle.par2_transform.specs.Subspaces.{ArePowerSums, IsMerged, member, sum_ahead}
 unfoldable pub use Rattle.par2_transform.specs.Subspaces.{power_sum, basis, bit_numbers, point, point_number, powers_in, vanishing}
-pub use Rattle.par2_transform.specs.LevelSteps.{AheadAdded, IsButterfly, IsLowered, IsRaised, IsSpreadAbove, IsSpreadBelow, OneRun, RunAdded, RunAddedBy, SameValuesOutside, spread_beyond, spread_within}
-pub use Rattle.par2_transform.specs.Outputs.{Adds, AddsIn, AddsSlices, Fit, LieIn, product_in}
+pub use Rattle.par2_transform.specs.LevelSteps.{AddsToRun, AheadAdded, IsButterfly, IsLowered, IsRaised, IsSpreadAbove, IsSpreadBelow, OneRun, RunAdded, RunAddedBy, SameValuesOutside, spread_beyond, spread_within}
+pub use Rattle.par2_transform.specs.Outputs.{Adds, AddsIn, AddsSlices, Fit, LieIn, product_in, row_in}
 pub use Rattle.par2_transform.specs.declared.outputs.Columns.{Columns}
 pub use Rattle.par2_transform.specs.declared.outputs.Place.{Place}
 pub use Rattle.par2_transform.specs.declared.outputs.Places.{Places}
+pub use Rattle.par2_transform.specs.declared.outputs.Row.{Row}
 pub use Rattle.par2_transform.specs.declared.plan.Plan.{Plan}

@@ -7,6 +7,7 @@ mod Chirps
 mod CoprimeSums
 mod Transforms
 mod BufferLaws
+pub mod VectorLaws
 mod StepLaws
 mod Divisions
 mod CosetLaws

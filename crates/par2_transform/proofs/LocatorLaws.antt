@@ -1,5 +1,5 @@
 -- Sums of sources by the error locator.
-use Rattle.par2_transform.proofs.Common.{map, inl, inr, suc, pow-suc, AreCopied, ℕ, ◌+◌, ◌-◌, ◌*◌, ◌%◌, ◌^◌, ◌<◌, ◌≤◌, ◌≡◌, sym, ap, ap₂, subst, ◌∙◌, arith, bit_xor, zero-add, add-mul, one-mul, List, length, get_or, slice_index, get_or_past, length-map, pow-le-pow_right, point_number, cases_lt, pow-add, mul-le-mul_right, word, xor_zero_l, mul, pow, GivesElements, product-lt, product_comm, product-one, product_assoc, product_linear_left, zero-product, power-lt, word-lt, field_sum, field_sum-lt, field_sum_same, field_sum_scaled, within, AddsAt, RowsGathered, AreByteLists, words_at, list_at, AreValues, AreWeights, value, from, Grid, column, EachColumn, ArePowerSums, power_sum, point, IsListed, AreListedValues, AreNumbered, AreNumerators, AreValuesOf, HaveFirst, IsWeighed, in_coset, numerator, quotient_sum, Place}
+use Rattle.par2_transform.proofs.Common.{WordVector, word_of, map, inl, inr, suc, pow-suc, AreCopied, ℕ, ◌+◌, ◌-◌, ◌*◌, ◌%◌, ◌^◌, ◌<◌, ◌≤◌, ◌≡◌, sym, ap, ap₂, subst, ◌∙◌, arith, bit_xor, zero-add, add-mul, one-mul, List, length, get_or, slice_index, get_or_past, length-map, pow-le-pow_right, point_number, cases_lt, pow-add, mul-le-mul_right, xor_zero_l, mul, pow, GivesElements, product-lt, product_comm, product-one, product_assoc, product_linear_left, zero-product, power-lt, word-lt, field_sum, field_sum-lt, field_sum_same, field_sum_scaled, within, AddsAt, RowsGathered, AreByteLists, words_at, list_at, AreValues, AreWeights, value, from, Grid, column, EachColumn, ArePowerSums, power_sum, point, IsListed, AreListedValues, AreNumbered, AreNumerators, AreValuesOf, HaveFirst, IsWeighed, in_coset, numerator, quotient_sum, Place}
 use Rattle.std.proofs.lemmas.List.{get_or-map}
 use Rattle.par2_transform.proofs.AddingLaws.{adds_empty, adds_none, adds_range, adds_same, adds_whole, within-in, within-below, within-above, within_same, within_zero}
 use Rattle.par2_transform.specs.Combinations.{combined, IsCombination}
@@ -238,12 +238,12 @@ point_behind places len numbers k coset j given buffers behind =
     adds_none places len (λ t p. within j (j + 1) t (in_coset numbers k coset j (given p))) buffers
     (λ t p. within_zero j (j + 1) t (in_coset numbers k coset j (given p)) (within-above (coset * 2 ^ k) (coset * 2 ^ k + 2 ^ k) (get_or numbers j 0) (given p) behind))
 
-pub point_taken : (places : List Place) (len : ℕ) (numbers : List ℕ) (k coset j at to c b u : ℕ) (row : List ℕ) (rows : Grid) (was buffers : List (List ℕ)) → c ≡ b → ((q : ℕ) → word q row ≡ column rows q u)
+pub point_taken : (places : List Place) (len : ℕ) (numbers : List ℕ) (k coset j at to c b u : ℕ) (row : List WordVector) (rows : Grid) (was buffers : List (List ℕ)) → c ≡ b → ((q : ℕ) → word_of row q ≡ column rows q u)
     → u ≡ get_or numbers j 0 - coset * 2 ^ k → coset * 2 ^ k ≤ get_or numbers j 0 → get_or numbers j 0 < coset * 2 ^ k + 2 ^ k
-    → AddsAt places len (λ t p. within j (j + 1) t (within at to p (mul c (word (p - at) row)))) was buffers
+    → AddsAt places len (λ t p. within j (j + 1) t (within at to p (mul c (word_of row (p - at))))) was buffers
     → AddsAt places len (λ t p. within j (j + 1) t (in_coset numbers k coset j (within at to p (mul b (column rows (p - at) (get_or numbers j 0 - coset * 2 ^ k)))))) was buffers
 point_taken places len numbers k coset j at to c b u row rows was buffers factor words place first last added =
-    adds_same places len (λ t p. within j (j + 1) t (within at to p (mul c (word (p - at) row))))
+    adds_same places len (λ t p. within j (j + 1) t (within at to p (mul c (word_of row (p - at)))))
     (λ t p. within j (j + 1) t (in_coset numbers k coset j (within at to p (mul b (column rows (p - at) (get_or numbers j 0 - coset * 2 ^ k)))))) was buffers added
     (λ t p h fits. ap (within j (j + 1) t)
     (ap (within at to p) (ap₂ mul factor (words (p - at) ∙ ap (column rows (p - at)) place))
@@ -284,12 +284,12 @@ next_point places len numbers k coset at to n given other was half buffers so_fa
     (λ first last. within_same at to p (other n p) (given n p) (λ a b. same p a b first last)))
 
 -- row t of the sums, added to output t
-pub next_row_added : (places : List Place) (len at to n : ℕ) (given : ℕ → ℕ → ℕ) (row : List ℕ) (was half buffers : List (List ℕ)) → FirstAdded places len (λ t p. within at to p (given t p)) n was half
-    → AddsAt places len (λ t p. within n (n + 1) t (within at to p (mul 1 (word (p - at) row)))) half buffers
-    → ((p : ℕ) → at ≤ p → p < to → mul 1 (word (p - at) row) ≡ given n p) → FirstAdded places len (λ t p. within at to p (given t p)) (n + 1) was buffers
+pub next_row_added : (places : List Place) (len at to n : ℕ) (given : ℕ → ℕ → ℕ) (row : List WordVector) (was half buffers : List (List ℕ)) → FirstAdded places len (λ t p. within at to p (given t p)) n was half
+    → AddsAt places len (λ t p. within n (n + 1) t (within at to p (mul 1 (word_of row (p - at))))) half buffers
+    → ((p : ℕ) → at ≤ p → p < to → mul 1 (word_of row (p - at)) ≡ given n p) → FirstAdded places len (λ t p. within at to p (given t p)) (n + 1) was buffers
 next_row_added places len at to n given row was half buffers so_far added same =
-    one_added_more places len n (λ t p. within at to p (given t p)) (λ p. within at to p (mul 1 (word (p - at) row))) was half buffers so_far added
-    (λ p. within_same at to p (mul 1 (word (p - at) row)) (given n p) (same p))
+    one_added_more places len n (λ t p. within at to p (given t p)) (λ p. within at to p (mul 1 (word_of row (p - at)))) was half buffers so_far added
+    (λ p. within_same at to p (mul 1 (word_of row (p - at))) (given n p) (same p))
 
 -- ---- coset by coset
 

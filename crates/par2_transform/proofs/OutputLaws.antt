@@ -1,5 +1,5 @@
 -- From power sums in rows to the outputs of a block.
-use Rattle.par2_transform.proofs.Common.{ℕ, ◌+◌, ◌-◌, ◌*◌, ◌^◌, ◌<◌, ◌≤◌, ◌≡◌, sym, ap, ap₂, subst, ◌∙◌, arith, List, length, bit_xor, min, mul, pow, word, field_sum, field_sum_same, within, AddsAt, from_gathered, chirp_inverse, Grid, column, EachColumn, member, ArePowerSums, power_sum, point, Cut, Place}
+use Rattle.par2_transform.proofs.Common.{ℕ, ◌+◌, ◌-◌, ◌*◌, ◌^◌, ◌<◌, ◌≤◌, ◌≡◌, sym, ap, ap₂, subst, ◌∙◌, arith, List, length, bit_xor, min, mul, pow, word_of, WordVector, field_sum, field_sum_same, within, AddsAt, from_gathered, chirp_inverse, Grid, column, EachColumn, member, ArePowerSums, power_sum, point, Cut, Place}
 use Rattle.par2_transform.proofs.AddingLaws.{adds_empty, adds_more, adds_same, within_cut, within_joined, within_same}
 
 -- the first coset's power sums are sums over the points
@@ -21,19 +21,19 @@ OutputsAdded places len cut sums e r from to first n was buffers =
 pub no_output : (places : List Place) (len : ℕ) (cut : Cut) (sums : Grid) (e r from to first : ℕ) (buffers : List (List ℕ)) → OutputsAdded places len cut sums e r from to first 0 buffers buffers
 no_output places len cut sums e r from to first buffers = adds_empty (λ t p. t) (output_part cut sums e r from to first) first (first + 0) (omega arith)
 
-pub next_output : (places : List Place) (len : ℕ) (cut : Cut) (was_sums sums : Grid) (e r from to first n factor : ℕ) (row : List ℕ) (was before buffers : List (List ℕ))
+pub next_output : (places : List Place) (len : ℕ) (cut : Cut) (was_sums sums : Grid) (e r from to first n factor : ℕ) (row : List WordVector) (was before buffers : List (List ℕ))
     → EachColumn (ArePowerSums was_sums.levels 0) was_sums sums → was_sums.levels ≡ cut.levels → n < 2 ^ cut.levels → to ≤ from + was_sums.words
-    → factor ≡ mul (pow 2 ((e + n) * r)) (chirp_inverse cut.classes (e + n)) → ((c : ℕ) → word c row ≡ column sums c n)
+    → factor ≡ mul (pow 2 ((e + n) * r)) (chirp_inverse cut.classes (e + n)) → ((c : ℕ) → word_of row c ≡ column sums c n)
     → OutputsAdded places len cut was_sums e r from to first n was before
-    → AddsAt places len (λ t p. within (first + n) (first + n + 1) t (within from to p (mul factor (word (p - from) row)))) before buffers
+    → AddsAt places len (λ t p. within (first + n) (first + n + 1) t (within from to p (mul factor (word_of row (p - from))))) before buffers
     → OutputsAdded places len cut was_sums e r from to first (n + 1) was buffers
 next_output places len cut was_sums sums e r from to first n factor row was before buffers sums_are levels low narrow factor_is row_is so_far added =
-    adds_more places len (λ t p. within first (first + n) t (part t p)) (λ t p. within (first + n) (first + n + 1) t (within from to p (mul factor (word (p - from) row))))
+    adds_more places len (λ t p. within first (first + n) t (part t p)) (λ t p. within (first + n) (first + n + 1) t (within from to p (mul factor (word_of row (p - from)))))
     (λ t p. within first (first + (n + 1)) t (part t p)) was before buffers so_far added
     (λ t p h fits.
     ap (bit_xor (within first (first + n) t (part t p)))
-    (within_same (first + n) (first + n + 1) t (within from to p (mul factor (word (p - from) row))) (part t p)
-    (λ at_least below. within_same from to p (mul factor (word (p - from) row)) (from_gathered cut (column was_sums (p - from)) e (t - first) r)
+    (within_same (first + n) (first + n + 1) t (within from to p (mul factor (word_of row (p - from)))) (part t p)
+    (λ at_least below. within_same from to p (mul factor (word_of row (p - from))) (from_gathered cut (column was_sums (p - from)) e (t - first) r)
     (λ p_low p_high. product p p_low p_high ∙ ap (λ m. from_gathered cut (column was_sums (p - from)) e m r) (let s : n ≡ t - first = omega arith in s))))
     ∙ within_joined first (first + n) (first + n + 1) t (part t p) (omega arith) (omega arith)
     ∙ ap (λ m. within first m t (part t p)) (let s : first + n + 1 ≡ first + (n + 1) = omega arith in s))
@@ -41,7 +41,7 @@ next_output places len cut was_sums sums e r from to first n factor row was befo
     part : ℕ → ℕ → ℕ
     part t p = output_part cut was_sums e r from to first t p
 
-    product : (p : ℕ) → from ≤ p → p < to → mul factor (word (p - from) row) ≡ from_gathered cut (column was_sums (p - from)) e n r
+    product : (p : ℕ) → from ≤ p → p < to → mul factor (word_of row (p - from)) ≡ from_gathered cut (column was_sums (p - from)) e n r
     product p p_low p_high =
         ap₂ mul factor_is
         (row_is (p - from) ∙ sums_are.columns (p - from) (omega arith) n (subst (λ k. n < 2 ^ k) (sym levels) low)

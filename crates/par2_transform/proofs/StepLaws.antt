@@ -1,5 +1,5 @@
 -- One column of values, through the loops of a level.
-use Rattle.par2_transform.proofs.Common.{ℕ, suc, ◌+◌, ◌-◌, ◌*◌, ◌%◌, ◌^◌, ◌<◌, ◌≤◌, ◌≡◌, ◌≢◌, inl, inr, ◌⊎◌, AreTwoRuns, IsPair, IsRun, refl, sym, ap, ap₂, ◌∙◌, subst, arith, bit_xor, pow-suc, add_assoc, mul_assoc, add-mul, one-mul, mul-zero, List, length, get_or, set, bit_at, xor_zero_r, xor_assoc, pow-le-pow_right, cases_eq, cases_lt, get_or-set_same, get_or-set_other, pow-add, xor_lt, mul, GivesElements, field_sum, bit_times_xor, field_sum_same, field_sum_none, field_sum_xor, xor_off, within, powers_in, sum_ahead, IsMerged, from, SameValuesOutside, OneRun, RunAddedBy, RunAdded, IsButterfly, AheadAdded, IsRaised, IsLowered}
+use Rattle.par2_transform.proofs.Common.{ℕ, suc, ◌+◌, ◌-◌, ◌*◌, ◌%◌, ◌^◌, ◌<◌, ◌≤◌, ◌≡◌, ◌≢◌, inl, inr, ◌⊎◌, AreTwoRuns, IsPair, IsRun, refl, sym, ap, ap₂, ◌∙◌, subst, arith, bit_xor, pow-suc, add_assoc, mul_assoc, add-mul, one-mul, mul-zero, List, length, get_or, set, bit_at, xor_zero_r, xor_assoc, pow-le-pow_right, cases_eq, cases_lt, get_or-set_same, get_or-set_other, pow-add, xor_lt, mul, GivesElements, field_sum, bit_times_xor, field_sum_same, field_sum_none, field_sum_xor, xor_off, within, powers_in, sum_ahead, IsMerged, from, SameValuesOutside, OneRun, RunAddedBy, RunAdded, IsButterfly, AddsToRun, AheadAdded, IsRaised, IsLowered}
 use Rattle.std.proofs.Common.{mul-le-mul_right}
 use Rattle.par2_transform.proofs.AddingLaws.{within-in, within-below, within-above, within_joined, within_same}
 use Rattle.par2_transform.proofs.Sums.{field_sum_bit_set, field_sum_bit_unset}
@@ -129,6 +129,9 @@ run_none k at to n f none = record {
 }
 
 -- both runs of a butterfly, one after the other
+pub run_same : (to n : ℕ) (first second f g : ℕ → ℕ) → AddsToRun to n first f g → ((e : ℕ) → e < n → first e ≡ second e) → AddsToRun to n second f g
+run_same to n first second f g added same = record { others = added.others; run = λ e l. added.run e l ∙ ap (bit_xor (f (to + e))) (same e l) }
+
 pub butterfly_runs : (k : ℕ → ℕ) (low high n : ℕ) (f g h : ℕ → ℕ) → low + n ≤ high → RunAddedBy k high low n f g → RunAdded low high n g h → IsButterfly k low high n f h
 butterfly_runs k low high n f g h order first second = record {
   below = λ u l. second.others.below u (omega arith) ∙ first.others.below u l;

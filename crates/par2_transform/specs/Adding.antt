@@ -1,10 +1,13 @@
 -- Additions to buffers, word by word. A word is two bytes, the lower one first.
-use Rattle.std.specs.Prelude.{ℕ, ◌≡◌, ◌<◌, ◌≤◌, ◌+◌, ◌-◌, ◌*◌, ◌&&◌, nat_le, nat_lt, bit_xor, List, length, drop, slice_index, slice_index_or, if◌then◌else◌}
+use Rattle.std.specs.Prelude.{ℕ, ◌≡◌, ◌<◌, ◌≤◌, ◌+◌, ◌*◌, ◌&&◌, nat_le, nat_lt, bit_xor, List, length, drop, slice_index, slice_index_or, if◌then◌else◌}
 use Rattle.par2_spec.specs.Slices.{word}
 use Rattle.par2_spec.specs.Sums.{list_at}
 use Rattle.par2_spec.specs.Field.{mul}
-use Rattle.par2_transform.specs.declared.buffers.Multiplier.{Multiplier}
-use Rattle.par2_transform.specs.declared.buffers.Multiplier.TheVariants.{One, Factor}
+use Rattle.par2_gf16.specs.Vectors.{word_of}
+use Rattle.par2_transform.specs.declared.vectors.Multiplier.{Multiplier}
+use Rattle.par2_transform.specs.declared.vectors.Multiplier.TheVariants.{One, Factor}
+use Rattle.par2_transform.specs.declared.outputs.Row.{Row}
+use Rattle.par2_transform.specs.declared.outputs.Row.TheVariants.{Bytes, Products}
 use Rattle.par2_transform.specs.declared.outputs.Place.{Place}
 
 -- x if p is from `from` up to `to`, and 0 otherwise
@@ -14,18 +17,17 @@ within from to p x = if nat_le from p && nat_lt p to then x else 0
 -- an element, multiplied
 abbrev pub times : Multiplier → ℕ → ℕ
 times One = λ x. x
-times (Factor gf factor) = mul factor.now
+times (Factor factor) = mul factor.now
 
--- to word p of the buffer, `other p` is added
-pub record AddsTo (other : ℕ → ℕ) (old new : List ℕ) : Type 0 where
-  pub same_length : length new ≡ length old
-  pub each : (p : ℕ) → 2 * p + 1 < length old → word p new ≡ bit_xor (word p old) (other p)
+-- word p of a row
+abbrev pub row_word : Row → ℕ → ℕ
+row_word (Bytes bytes) = λ p. word p bytes.now
+row_word (Products factor vectors) = λ p. mul factor.now (word_of vectors.now p)
 
--- to the n words from `low` on, f of those from `high` on is added, and then these to those from `high` on
-pub record AddsBoth (f : ℕ → ℕ) (low high n : ℕ) (old new : List ℕ) : Type 0 where
-  pub between : List ℕ
-  pub lower : AddsTo (λ p. within low (low + n) p (f (word (high + (p - low)) old))) old between
-  pub upper : AddsTo (λ p. within high (high + n) p (word (low + (p - high)) between)) between new
+-- the number of bytes of a row
+abbrev pub row_size : Row → ℕ
+row_size (Bytes bytes) = length bytes.now
+row_size (Products factor vectors) = 64 * length vectors.now
 
 -- to word p of buffer t, `other t p` is added
 pub record AddsToEach (other : ℕ → ℕ → ℕ) (old new : List (List ℕ)) : Type 0 where

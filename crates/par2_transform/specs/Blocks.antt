@@ -89,7 +89,7 @@ pub record HasShape (cut : Cut) (columns : ℕ) (block : Outputs) : Type 0 where
 
 -- block j, or an empty one past the end
 abbrev pub outputs_at : List Outputs → ℕ → Outputs
-outputs_at blocks j = slice_index_or blocks j (record { exponent = 0; windows = 0; weights = []; sums = record { levels = 0; words = 0; bytes = [] } })
+outputs_at blocks j = slice_index_or blocks j (record { exponent = 0; windows = 0; weights = []; sums = record { levels = 0; words = 0; vectors = [] } })
 
 -- the first n blocks change by the relation, and no other block changes
 pub record BlocksBecome (relation : Outputs → Outputs → Type 0) (n : ℕ) (old new : List Outputs) : Type 0 where

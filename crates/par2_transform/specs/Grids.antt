@@ -1,17 +1,19 @@
 -- Rows of words, one for each point of a subspace: a transform works on all columns of words at once.
 use Rattle.std.specs.Prelude.{ℕ, suc, ◌≡◌, ◌≢◌, ◌<◌, ◌≤◌, ◌+◌, ◌-◌, ◌*◌, ◌^◌, ◌⊎◌, bit_xor, List, length}
-use Rattle.par2_spec.specs.Slices.{word}
+use Rattle.par2_gf16.specs.Vectors.{word_of}
+use Rattle.par2_gf16.specs.declared.vectors.WordVector.{WordVector}
+use Rattle.par2_spec.specs.Sums.{GivesElements}
 use Rattle.par2_transform.specs.Adding.{within}
 
 -- 2 ^ levels rows of `words` words each, one after the other
 pub record Grid : Type 0 where
   pub levels : ℕ
   pub words : ℕ
-  pub bytes : List ℕ
+  pub vectors : List WordVector
 
 -- word c of each row, or 0 past the end of a row
 abbrev pub column : Grid → ℕ → ℕ → ℕ
-column grid c u = within 0 grid.words c (word (u * grid.words + c) grid.bytes)
+column grid c u = within 0 grid.words c (word_of grid.vectors (u * grid.words + c))
 
 -- run q of level i, which is the 2 ^ i values from value q * 2 ^ i on, is one of 2 ^ levels values, at most 65,536
 pub record IsRun (levels i q : ℕ) : Type 0 where
@@ -36,16 +38,22 @@ pub record HasSize (k n : ℕ) (grid : Grid) : Type 0 where
   pub levels : grid.levels ≡ k
   pub words : grid.words ≡ n
 
--- the bytes are 2 ^ levels rows of this many words
-pub record AreRows (levels words : ℕ) (bytes : List ℕ) : Type 0 where
+-- the vectors are 2 ^ levels rows of this many
+pub record AreRows (levels width : ℕ) (vectors : List WordVector) : Type 0 where
   pub few : levels ≤ 16
-  pub count : length bytes ≡ 2 * (2 ^ levels * words)
+  pub count : length vectors ≡ 2 ^ levels * width
+  pub fit : GivesElements (word_of vectors)
 
--- the first n words are those of src, and the rest is unchanged
-pub record CopiesWords (n : ℕ) (src old new : List ℕ) : Type 0 where
+-- there are as many vectors as before, and their words still fit if they did
+pub record AreRewritten (old new : List WordVector) : Type 0 where
   pub same_length : length new ≡ length old
-  pub first : (p : ℕ) → p < n → word p new ≡ word p src
-  pub rest : (p : ℕ) → n ≤ p → word p new ≡ word p old
+  pub fit : GivesElements (word_of old) → GivesElements (word_of new)
+
+-- the first n vectors are those of src, and the rest is unchanged
+pub record CopiesVectors (n : ℕ) (src old new : List WordVector) : Type 0 where
+  pub same_length : length new ≡ length old
+  pub first : (p : ℕ) → p < 32 * n → word_of new p ≡ word_of src p
+  pub rest : (p : ℕ) → 32 * n ≤ p → word_of new p ≡ word_of old p
 
 -- the first n rows are those of the other rows, and the rest is unchanged
 pub record AreCopied (n : ℕ) (other old new : Grid) : Type 0 where

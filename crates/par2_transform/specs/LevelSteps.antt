@@ -17,10 +17,14 @@ pub record OneRun (start count : ℕ) (relation : (ℕ → ℕ) → (ℕ → ℕ
   pub others : SameValuesOutside start (start + count) old new
   pub run : relation (from start old) (from start new)
 
--- to the n values from `to` on, f of the values from `at` on is added
-pub record RunAddedBy (f : ℕ → ℕ) (at to n : ℕ) (old new : ℕ → ℕ) : Type 0 where
+-- to the n values from `to` on, those of `other` are added
+pub record AddsToRun (to n : ℕ) (other old new : ℕ → ℕ) : Type 0 where
   pub others : SameValuesOutside to (to + n) old new
-  pub run : (e : ℕ) → e < n → new (to + e) ≡ bit_xor (old (to + e)) (f (old (at + e)))
+  pub run : (e : ℕ) → e < n → new (to + e) ≡ bit_xor (old (to + e)) (other e)
+
+-- to the n values from `to` on, f of the values from `at` on is added
+abbrev pub RunAddedBy : (ℕ → ℕ) → ℕ → ℕ → ℕ → (ℕ → ℕ) → (ℕ → ℕ) → Type 0
+RunAddedBy f at to n old = AddsToRun to n (λ e. f (old (at + e))) old
 
 -- to the n values from `to` on, the values from `at` on are added
 abbrev pub RunAdded : ℕ → ℕ → ℕ → (ℕ → ℕ) → (ℕ → ℕ) → Type 0

@@ -1,13 +1,15 @@
 -- Outputs and columns of them, inside buffers.
 use Rattle.std.specs.Prelude.{ℕ, ◌≤◌, ◌+◌, ◌-◌, List, Vec}
 use Rattle.std.specs.declared.alloc.Global.{Global}
-use Rattle.par2_spec.specs.Field.{mul}
-use Rattle.par2_spec.specs.Slices.{word}
 use Rattle.par2_spec.specs.Sums.{lists_of}
-use Rattle.par2_transform.specs.Adding.{within, AddsAt, LieWithin}
+use Rattle.par2_spec.specs.Field.{mul}
+use Rattle.par2_gf16.specs.Vectors.{word_of}
+use Rattle.par2_gf16.specs.declared.vectors.WordVector.{WordVector}
+use Rattle.par2_transform.specs.Adding.{row_word, within, AddsAt, LieWithin}
 use Rattle.par2_transform.specs.Columns.{recovered}
 use Rattle.par2_transform.specs.declared.outputs.Columns.{Columns}
 use Rattle.par2_transform.specs.declared.outputs.Places.{Places}
+use Rattle.par2_transform.specs.declared.outputs.Row.{Row}
 
 -- the buffers have all bytes of the outputs
 abbrev pub LieIn : Places → List (Vec ℕ Global) → Type 0
@@ -30,6 +32,10 @@ pub record Fit (width : ℕ) (columns : Columns) (buffers : List (Vec ℕ Global
   pub narrow : columns.to ≤ columns.from + width
   pub room : LieIn columns.outputs buffers
 
--- c times the row's word for column p, which is 0 outside of the columns
-abbrev pub product_in : Columns → ℕ → List ℕ → ℕ → ℕ
-product_in columns c row p = within columns.from columns.to p (mul c (word (p - columns.from) row))
+-- the row's word for column p, or 0 outside of the columns
+abbrev pub row_in : Columns → Row → ℕ → ℕ
+row_in columns row p = within columns.from columns.to p (row_word row (p - columns.from))
+
+-- c times the row's word for column p, or 0 outside of the columns
+abbrev pub product_in : Columns → ℕ → List WordVector → ℕ → ℕ
+product_in columns c row p = within columns.from columns.to p (mul c (word_of row (p - columns.from)))

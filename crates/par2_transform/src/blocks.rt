@@ -93,7 +93,7 @@ fn weights_at(rows: &[Vec<u16>], a: usize) -> &[u16]
 
 /// Adds to each row u of `sums` row u of `values` times the weight of point u. A block gathers a window with it, and a
 /// locator its sources.
-pub(crate) fn gather_rows(gf: &Gf, weights: &[u16], values: &Rows, sums: &mut Rows)
+pub(crate) fn gather_rows(weights: &[u16], values: &Rows, sums: &mut Rows)
     requires weights { length weights.now ≡ 2 ^ sums.old.levels }
     requires same { HasSize sums.old.levels sums.old.words values.now }
     ensures { RowsGathered (slice_index weights.now) values.now (2 ^ sums.old.levels)
@@ -101,7 +101,7 @@ pub(crate) fn gather_rows(gf: &Gf, weights: &[u16], values: &Rows, sums: &mut Ro
 {
     for u in 0..weights.len() {
         let factor = Factor::new(weights[u]);
-        sums.add_other(gf, &factor, values, u, u);
+        sums.add_other(&factor, values, u, u);
     }
 }
 
@@ -135,11 +135,11 @@ impl Block {
 
     /// Adds to the gathered sums the values of window a, whose row u is for point u, each times the window's weight for
     /// its point. `Takes`: the block has weights for this window and the shape of the values.
-    pub(crate) fn gather(&mut self, gf: &Gf, a: usize, values: &Rows)
+    pub(crate) fn gather(&mut self, a: usize, values: &Rows)
         requires { Takes a values.now self.old }
         ensures { Gathers a values.now self.old self.new }
     {
-        gather_rows(gf, weights_at(&self.weights, a), values, &mut self.sums);
+        gather_rows(weights_at(&self.weights, a), values, &mut self.sums);
     }
 
     /// Turns the sums gathered for a class into outputs, and adds them to the outputs from `first` on, in these columns.
@@ -162,14 +162,14 @@ impl Block {
         ensures added { Adds columns.now.outputs (part_from class.now columns.now self.old first)
             buffers.old buffers.new }
     {
-        power_sums(gf, &mut self.sums);
+        power_sums(&mut self.sums);
         for t in 0..class
             .plan
             .block
             .min(columns.outputs.len().saturating_sub(first))
         {
             let factor = factor_of(gf, class, self.exponent + t as u64);
-            columns.add(gf, factor, self.sums.row(t), buffers, first + t);
+            columns.add_products(factor, self.sums.row(t), buffers, first + t);
         }
     }
 }
@@ -197,12 +197,12 @@ pub(crate) fn clear_all(blocks: &mut [Block])
 }
 
 /// Gathers in all blocks the values of window a at the points, each block with its own weights.
-pub(crate) fn gather_all(gf: &Gf, a: usize, values: &Rows, blocks: &mut [Block])
+pub(crate) fn gather_all(a: usize, values: &Rows, blocks: &mut [Block])
     requires { (j : ℕ) → j < length blocks.old → Takes a values.now (outputs_at blocks.old j) }
     ensures { EachBlock (Gathers a values.now) blocks.old blocks.new }
 {
     for j in 0..blocks.len() {
-        blocks[j].gather(gf, a, values);
+        blocks[j].gather(a, values);
     }
 }
 

@@ -11,7 +11,6 @@ ghost use Rattle.par2_transform.specs.LevelSteps.{OneRun};
 use crate::basis::point;
 use crate::levels::{split, to_combinations};
 use crate::rows::Rows;
-use par2_gf16::Gf;
 use std::alloc::{AllocError, Global};
 
 // The number of points of the whole field.
@@ -74,7 +73,7 @@ fn has_wanted(next: Option<&[u32]>, i: u32, number: u16) -> bool
 }
 
 // Replaces run q of level i by its values at the points of coset `number`, or at the listed ones among them.
-fn evaluate_run(gf: &Gf, rows: &mut Rows, next: Option<&[u32]>, i: u32, q: u16, number: u16)
+fn evaluate_run(rows: &mut Rows, next: Option<&[u32]>, i: u32, q: u16, number: u16)
     // Run q of level i lies in the rows, and the coset in the field.
     requires run { IsRun rows.old.levels i q }
     requires coset { IsRun 16 i number }
@@ -85,37 +84,31 @@ fn evaluate_run(gf: &Gf, rows: &mut Rows, next: Option<&[u32]>, i: u32, q: u16, 
         rows.old rows.new }
 {
     if i > 0 && has_wanted(next, i, number) {
-        split(gf, rows, i - 1, q, point(2 * number));
+        split(rows, i - 1, q, point(2 * number));
         rows.fit();
-        evaluate_run(gf, rows, next, i - 1, 2 * q, 2 * number);
-        evaluate_run(gf, rows, next, i - 1, 2 * q + 1, 2 * number + 1);
+        evaluate_run(rows, next, i - 1, 2 * q, 2 * number);
+        evaluate_run(rows, next, i - 1, 2 * q + 1, 2 * number + 1);
     }
 }
 
 /// Replaces the first `2 ^ levels` coefficients of each column, which are those of a combination (`to_combinations`), by
 /// its values at the listed points of a coset, or at all of its points if there is no list. Rows of other points have no
 /// meaning afterwards. The field has `2 ^ (16 - levels)` cosets of `2 ^ levels` points.
-pub(crate) fn values_in_coset(
-    gf: &Gf,
-    rows: &mut Rows,
-    next: Option<&[u32]>,
-    levels: u32,
-    coset: u16,
-)
+pub(crate) fn values_in_coset(rows: &mut Rows, next: Option<&[u32]>, levels: u32, coset: u16)
     requires levels { (levels ≤ rows.old.levels) × (rows.old.levels ≤ 16) }
     requires coset { IsRun 16 levels coset }
     requires list { IfSome next (λ list. length list.now ≡ 65536) }
     ensures { EachColumn (AreListedValues (listed_by next.entry) levels coset) rows.old rows.new }
 {
-    evaluate_run(gf, rows, next, levels, 0, coset);
+    evaluate_run(rows, next, levels, 0, coset);
 }
 
 /// The additive FFT: replaces each column of coefficients, of which those from number `count` on are 0, by the values of
 /// the polynomial at the points of the subspace.
-pub(crate) fn values_at_points(gf: &Gf, rows: &mut Rows, count: usize)
+pub(crate) fn values_at_points(rows: &mut Rows, count: usize)
     ensures { EachColumn (AreValues count rows.old.levels) rows.old rows.new }
 {
     let levels = rows.levels();
     to_combinations(rows, levels, count);
-    values_in_coset(gf, rows, None, levels, 0);
+    values_in_coset(rows, None, levels, 0);
 }

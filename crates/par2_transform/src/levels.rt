@@ -12,34 +12,34 @@ ghost use Rattle.par2_transform.specs.Grids.{AreTwoRuns, EachColumn, IsPair, IsR
 ghost use Rattle.par2_transform.specs.LevelSteps.{OneRun, RunAddedBy, AheadAdded, IsRaised, IsSpreadAbove, IsSpreadBelow};
 
 use crate::basis::{point, powers_in};
-use crate::buffers::Multiplier;
-use crate::buffers::Multiplier::One;
 use crate::rows::Rows;
-use par2_gf16::{Factor, Gf};
+use crate::vectors::Multiplier;
+use crate::vectors::Multiplier::One;
+use par2_gf16::Factor;
 
 /// The transpose: replaces each column of weights by the weighted sums of the first `2 ^ levels` powers of the points.
-pub(crate) fn power_sums(gf: &Gf, rows: &mut Rows)
+pub(crate) fn power_sums(rows: &mut Rows)
     ensures { EachColumn (ArePowerSums rows.old.levels 0) rows.old rows.new }
 {
-    sum_run(gf, rows, rows.levels(), 0);
+    sum_run(rows, rows.levels(), 0);
 }
 
 // The transpose of run q of level i, whose rows are weights of the points of coset q.
-fn sum_run(gf: &Gf, rows: &mut Rows, i: u32, q: u16)
+fn sum_run(rows: &mut Rows, i: u32, q: u16)
     requires { IsRun rows.old.levels i q }
     ensures { EachColumn (OneRun (q * 2 ^ i) (2 ^ i) (ArePowerSums i q)) rows.old rows.new }
 {
     rows.fit();
     if i > 0 {
-        sum_run(gf, rows, i - 1, 2 * q);
-        sum_run(gf, rows, i - 1, 2 * q + 1);
-        merge(gf, rows, i - 1, q);
+        sum_run(rows, i - 1, 2 * q);
+        sum_run(rows, i - 1, 2 * q + 1);
+        merge(rows, i - 1, q);
     }
 }
 
 // Merges runs 2 q and 2 q + 1 of level i into run q of level i + 1: the power sums over two cosets give those over
 // both. `weights::unmerge` inverts it on one column.
-fn merge(gf: &Gf, rows: &mut Rows, i: u32, q: u16)
+fn merge(rows: &mut Rows, i: u32, q: u16)
     requires { IsRun rows.old.levels (suc i) q }
     ensures { EachColumn (OneRun (q * 2 ^ suc i) (2 ^ suc i) (IsMerged i (point (2 * q))))
         rows.old rows.new }
@@ -47,7 +47,7 @@ fn merge(gf: &Gf, rows: &mut Rows, i: u32, q: u16)
     let half = 1usize << i;
     let start = q as usize * 2 * half;
     rows.add_rows(One, start + half, start, half);
-    raise(gf, rows, i, start, point(2 * q));
+    raise(rows, i, start, point(2 * q));
 }
 
 /// Replaces the first `2 ^ levels` coefficients of each column, of which those from number `count` on are 0, by those of
@@ -91,7 +91,7 @@ fn halve(rows: &mut Rows, i: u32, q: u16, count: usize)
 
 /// Splits run q of level i + 1 of combinations into two of level i that agree with it on one half of the coset each. c is
 /// the value of subspace polynomial i on the first half.
-pub(crate) fn split(gf: &Gf, rows: &mut Rows, i: u32, q: u16, c: u16)
+pub(crate) fn split(rows: &mut Rows, i: u32, q: u16, c: u16)
     requires { IsRun rows.old.levels (suc i) q }
     ensures { EachColumn (OneRun (q * 2 ^ suc i) (2 ^ suc i) (IsSplit i c)) rows.old rows.new }
 {
@@ -101,29 +101,29 @@ pub(crate) fn split(gf: &Gf, rows: &mut Rows, i: u32, q: u16, c: u16)
     if c == 0 {
         rows.add_rows(One, start, start + half, half);
     } else {
-        rows.butterfly(gf, &Factor::new(c), start, start + half, half);
+        rows.butterfly(&Factor::new(c), start, start + half, half);
     }
 }
 
 // Adds c times the `count` rows from `from` on to those from `to` on, unless c is 0, as in the first run of each level.
-fn add_scaled(gf: &Gf, rows: &mut Rows, c: u16, from: usize, to: usize, count: usize)
+fn add_scaled(rows: &mut Rows, c: u16, from: usize, to: usize, count: usize)
     requires { AreTwoRuns (2 ^ rows.old.levels) from to count }
     ensures { EachColumn (RunAddedBy (mul c) from to count) rows.old rows.new }
 {
     if c != 0 {
-        rows.add_rows(Multiplier::Factor(gf, &Factor::new(c)), from, to, count);
+        rows.add_rows(Multiplier::Factor(&Factor::new(c)), from, to, count);
     }
 }
 
 // The second step of `merge`, on the run that begins at row `start`: adds c times value e, and value e + 2 ^ j for each
 // lower power 2 ^ j of the subspace polynomial, to value 2 ^ i + e. The lower half comes first, so that the values read
 // in the upper half are complete.
-fn raise(gf: &Gf, rows: &mut Rows, i: u32, start: usize, c: u16)
+fn raise(rows: &mut Rows, i: u32, start: usize, c: u16)
     requires { IsPair rows.old.levels i start }
     ensures { EachColumn (IsRaised i c start) rows.old rows.new }
 {
     let half = 1usize << i;
-    add_scaled(gf, rows, c, start, start + half, half);
+    add_scaled(rows, c, start, start + half, half);
     add_lower_ahead(rows, i, start);
     add_upper_ahead(rows, i, start);
 }

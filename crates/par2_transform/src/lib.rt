@@ -21,6 +21,7 @@ mod plan;
 mod powers;
 mod recovery;
 mod rows;
+mod vectors;
 mod weights;
 mod windows;
 

@@ -29,9 +29,8 @@ use std::alloc::{AllocError, Global};
 /// Multiplies sources by the quotients of a polynomial on division by z minus each of the points. Each quotient is
 /// scaled by a factor. The sequence of the numerators has the polynomial's coefficients from 1 on.
 #[derive(Drop)]
-pub struct Locator<'a> {
-    gf: &'a Gf,
-    pub numerators: Numerators<'a>,
+pub struct Locator {
+    pub numerators: Numerators,
     pub points: Vec<u16>,
     pub factors: Vec<u16>,
     numbers: Vec<u16>,
@@ -54,18 +53,18 @@ fn numbers_of(alloc: Global, points: &[u16]) -> Result<Vec<u16>, AllocError>
     points.iter().map(|x| point_number(*x)).collect(alloc)
 }
 
-impl<'a> Locator<'a> {
+impl Locator {
     ghost use Rattle.par2_transform.specs.Products.{Serves, quotient_word};
 
     /// For the polynomial with these coefficients from 1 on (`sequence`), its roots (`points`) and a factor for each.
     /// Computes the numbers of the points and what the numerators need. An error is that memory ran out.
     pub fn new(
         alloc: Global,
-        gf: &'a Gf,
+        gf: &Gf,
         sequence: Vec<u16>,
         points: Vec<u16>,
         factors: Vec<u16>,
-    ) -> Result<Locator<'a>, AllocError>
+    ) -> Result<Locator, AllocError>
         requires few { length sequence.items ≤ 32768 }
         requires factors { length factors.items ≡ length points.items }
         ensures sequence { IfOk result (λ made. made.numerators.sequence.items ≡ sequence.items) }
@@ -80,7 +79,6 @@ impl<'a> Locator<'a> {
         fit_words(&factors);
         let levels = numerators.levels.saturating_sub(1);
         Ok(Locator {
-            gf,
             numerators,
             points,
             factors,
@@ -113,7 +111,7 @@ impl<'a> Locator<'a> {
     {
         scratch.sums.copy_from(&scratch.rows, 1 << self.levels);
         let sums = &mut scratch.sums;
-        values_in_coset(self.gf, sums, Some(&self.next), self.levels, coset as u16);
+        values_in_coset(sums, Some(&self.next), self.levels, coset as u16);
     }
 
     // Adds the value at point j, times its factor, to output j in these columns, if the point is in the coset whose
@@ -146,7 +144,7 @@ impl<'a> Locator<'a> {
         let u = number - first;
         if u < 1 << self.levels {
             let factor = word_or_zero(&self.factors, j);
-            columns.add(self.gf, factor, rows.row(u), buffers, j);
+            columns.add_products(factor, rows.row(u), buffers, j);
         }
     }
 

@@ -28,8 +28,7 @@ use std::alloc::{AllocError, Global};
 /// The Hankel matrix of a sequence: row t, of which there are `count`, has the elements from t on. Elements past the end
 /// are 0.
 #[derive(Drop)]
-pub struct Numerators<'a> {
-    gf: &'a Gf,
+pub struct Numerators {
     pub sequence: Vec<u16>,
     pub count: usize,
     pub(crate) levels: u32,
@@ -104,7 +103,7 @@ fn source_at<'a>(sources: &[&'a [u8]], s: usize) -> &'a [u8]
 // Copies the words of source s, from word `from` on, to row s: as many as a row has, and zeros for those past the
 // source's end. The rows after the last source become zero.
 #[tactic(auto, using(crate::proofs::LocatorLaws::fills))]
-fn fill(gf: &Gf, sources: &[&[u8]], from: usize, rows: &mut Rows)
+fn fill(sources: &[&[u8]], from: usize, rows: &mut Rows)
     requires { length sources.now ≤ 2 ^ rows.old.levels }
     ensures bytes { AreByteLists (byte_lists sources.now) }
     ensures rows { HaveFirst (length sources.now)
@@ -115,20 +114,20 @@ fn fill(gf: &Gf, sources: &[&[u8]], from: usize, rows: &mut Rows)
     let factor = Factor::new(1);
     for s in 0..sources.len() {
         let source = source_at(sources, s);
-        rows.add_bytes(gf, &factor, bytes_from(source, from), s);
+        rows.add_bytes(&factor, bytes_from(source, from), s);
     }
 }
 
-impl<'a> Numerators<'a> {
+impl Numerators {
     ghost use Rattle.par2_transform.specs.Products.{numerator_word};
 
     /// For this sequence and `count` sums. Computes the weights of the points. An error is that memory ran out.
     pub fn new(
         alloc: Global,
-        gf: &'a Gf,
+        gf: &Gf,
         sequence: Vec<u16>,
         count: usize,
-    ) -> Result<Numerators<'a>, AllocError>
+    ) -> Result<Numerators, AllocError>
         requires { length sequence.items + count ≤ 65536 }
         ensures sequence { IfOk result (λ made. made.sequence.items ≡ sequence.items) }
         ensures count { IfOk result (λ made. made.count ≡ count) }
@@ -137,7 +136,6 @@ impl<'a> Numerators<'a> {
         let weights = weights_for(alloc, gf, &sequence, levels)?;
         fit_words(&sequence);
         Ok(Numerators {
-            gf,
             sequence,
             count,
             levels,
@@ -156,11 +154,11 @@ impl<'a> Numerators<'a> {
         ensures numerators { AreNumerators self.now.count self.now.sequence.items
             (byte_lists sources.now) from scratch.old.sums scratch.new.sums }
     {
-        fill(self.gf, sources, from, &mut scratch.rows);
-        values_at_points(self.gf, &mut scratch.rows, sources.len());
+        fill(sources, from, &mut scratch.rows);
+        values_at_points(&mut scratch.rows, sources.len());
         scratch.sums.clear();
-        gather_rows(self.gf, &self.weights, &scratch.rows, &mut scratch.sums);
-        power_sums(self.gf, &mut scratch.sums);
+        gather_rows(&self.weights, &scratch.rows, &mut scratch.sums);
+        power_sums(&mut scratch.sums);
     }
 
     // Adds sum t to output t in these columns.
@@ -184,7 +182,7 @@ impl<'a> Numerators<'a> {
     {
         self.sum(sources, columns.from, scratch);
         for t in 0..columns.outputs.len() {
-            columns.add(self.gf, 1, scratch.sums.row(t), buffers, t);
+            columns.add_products(1, scratch.sums.row(t), buffers, t);
         }
     }
 

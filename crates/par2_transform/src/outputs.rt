@@ -1,12 +1,14 @@
 //! Outputs at their places inside buffers. A buffer may hold several outputs, with other bytes between them.
 #![tactic(auto, using(crate::proofs::AddingLaws::steps))]
 
-ghost use Rattle.std.specs.Prelude.{◌≡◌, ◌+◌, ◌-◌, ◌*◌, ◌<◌, ◌≤◌, length, min, take, drop};
+ghost use Rattle.std.specs.Prelude.{◌≡◌, ◌+◌, ◌-◌, ◌*◌, ◌%◌, ◌<◌, ◌≤◌, length, min, take, drop};
+ghost use Rattle.par2_gf16.specs.Products.{AddsTo};
+ghost use Rattle.par2_spec.specs.Slices.{word};
 ghost use Rattle.par2_spec.specs.Sums.{OneChanged, list_at, lists_of};
-ghost use Rattle.par2_transform.specs.Adding.{within, place_at, AddsToPart, AreApart};
+ghost use Rattle.par2_transform.specs.Adding.{row_size, row_word, within, place_at, AddsToPart, AreApart};
 
-use crate::buffers::{Multiplier, add_words};
-use par2_gf16::{Factor, Gf};
+use crate::buffers::add;
+use par2_gf16::{Factor, WordVector};
 
 /// Where an output lies: the number of its buffer, and its first byte there.
 #[derive(Clone, Copy)]
@@ -80,6 +82,27 @@ pub struct Columns<'a> {
     ghost inside: { to ≤ outputs.words },
 }
 
+// A row of words that is added to an output: bytes, or the products of a factor and vectors of words.
+#[derive(Clone, Copy)]
+enum Row<'a> {
+    Bytes(&'a [u8]),
+    Products(&'a Factor, &'a [WordVector]),
+}
+
+impl<'a> Row<'a> {
+    // Adds the words to those of `dst` at the same position, as many as it has.
+    fn add(self, dst: &mut [u8])
+        requires enough { length dst.old ≤ row_size self }
+        requires even { length dst.old % 2 ≡ 0 }
+        ensures { AddsTo (row_word self.entry) dst.old dst.new }
+    {
+        match self {
+            Row::Bytes(src) => add(&src[..dst.len()], dst),
+            Row::Products(factor, vectors) => factor.add_products(vectors, dst),
+        }
+    }
+}
+
 // The place of output t.
 #[inline(always)]
 fn place_of(places: &[Place], t: usize) -> Place
@@ -90,54 +113,55 @@ fn place_of(places: &[Place], t: usize) -> Place
 }
 
 impl<'a> Columns<'a> {
-    ghost use Rattle.par2_transform.specs.Outputs.{product_in, Adds, LieIn};
+    ghost use Rattle.par2_transform.specs.Outputs.{product_in, row_in, Adds, LieIn};
 
-    // Adds the factor times word k of the row to column `from + k`, for all of the columns, of the output that begins at
-    // byte `at`.
-    fn add_within(&self, gf: &Gf, factor: &Factor, row: &[u8], bytes: &mut [u8], at: usize)
-        requires row { 2 * self.now.to ≤ 2 * self.now.from + length row.now }
-        requires room { at + 2 * self.now.outputs.words ≤ length bytes.old }
-        ensures { AddsToPart at self.now.outputs.words (product_in self.now factor.now row.now)
-            bytes.old bytes.new }
-    {
-        let output = &mut bytes[at..at + 2 * self.outputs.words];
-        let by = Multiplier::Factor(gf, factor);
-        add_words(by, row, output, self.from, self.to);
-    }
-
-    // Adds to the output at this place, as `add_within` does. `OneChanged`: no other buffer changes.
-    fn add_to_bytes(
-        &self,
-        gf: &Gf,
-        factor: &Factor,
-        row: &[u8],
-        buffers: &mut [Vec<u8>],
-        place: Place,
-    )
+    // Adds the row to these columns of the output at this place. `OneChanged`: no other buffer changes.
+    fn add_to_bytes(&self, row: Row, buffers: &mut [Vec<u8>], place: Place)
         requires place { place.buffer < length buffers.old }
-        requires row { 2 * self.now.to ≤ 2 * self.now.from + length row.now }
+        requires row { 2 * self.now.to ≤ 2 * self.now.from + row_size row }
         requires room { place.at + 2 * self.now.outputs.words
             ≤ length (list_at (lists_of buffers.old) place.buffer) }
         ensures changed { OneChanged (lists_of buffers.old) (lists_of buffers.new) place.buffer }
-        ensures added { AddsToPart place.at self.now.outputs.words
-            (product_in self.now factor.now row.now) (list_at (lists_of buffers.old) place.buffer)
+        ensures added { AddsToPart place.at self.now.outputs.words (row_in self.now row.entry)
+            (list_at (lists_of buffers.old) place.buffer)
             (list_at (lists_of buffers.new) place.buffer) }
     {
         let bytes = buffers[place.buffer].as_mut_slice();
-        self.add_within(gf, factor, row, bytes, place.at);
+        row.add(&mut bytes[place.at + 2 * self.from..place.at + 2 * self.to]);
     }
 
-    /// Adds (exclusive or) c times word k of the row to column `from + k` of output `t`, for all of the columns.
+    // Adds the row to these columns of output `t`. `within t (t + 1)`: no other output changes.
+    fn add_row(&self, row: Row, buffers: &mut [Vec<u8>], t: usize)
+        requires place { t < length self.now.outputs.places.now }
+        requires row { 2 * self.now.to ≤ 2 * self.now.from + row_size row }
+        requires room { LieIn self.now.outputs buffers.old }
+        ensures { Adds self.now.outputs (λ s p. within t (t + 1) s (row_in self.now row.entry p))
+            buffers.old buffers.new }
+    {
+        self.add_to_bytes(row, buffers, place_of(self.outputs.places, t));
+    }
+
+    /// Adds (exclusive or) word k of the row to column `from + k` of output `t`, for all of the columns.
     /// `within t (t + 1)`: no other output changes.
-    pub fn add(&self, gf: &Gf, c: u16, row: &[u8], buffers: &mut [Vec<u8>], t: usize)
+    pub fn add(&self, row: &[u8], buffers: &mut [Vec<u8>], t: usize)
         requires place { t < length self.now.outputs.places.now }
         requires row { 2 * self.now.to ≤ 2 * self.now.from + length row.now }
+        requires room { LieIn self.now.outputs buffers.old }
+        ensures { Adds self.now.outputs (λ s p. within t (t + 1) s
+            (within self.now.from self.now.to p (word (p - self.now.from) row.now)))
+            buffers.old buffers.new }
+    {
+        self.add_row(Row::Bytes(row), buffers, t);
+    }
+
+    /// The same with c times the words of vectors.
+    pub(crate) fn add_products(&self, c: u16, row: &[WordVector], buffers: &mut [Vec<u8>], t: usize)
+        requires place { t < length self.now.outputs.places.now }
+        requires row { self.now.to ≤ self.now.from + 32 * length row.now }
         requires room { LieIn self.now.outputs buffers.old }
         ensures { Adds self.now.outputs (λ s p. within t (t + 1) s (product_in self.now c row.now p))
             buffers.old buffers.new }
     {
-        let place = place_of(self.outputs.places, t);
-        let factor = Factor::new(c);
-        self.add_to_bytes(gf, &factor, row, buffers, place);
+        self.add_row(Row::Products(&Factor::new(c), row), buffers, t);
     }
 }

@@ -2,7 +2,7 @@
 //! transform, and `Plan::new` cuts their sums.
 #![tactic(auto, using(crate::proofs::StepLaws::level_steps))]
 
-ghost use Rattle.std.specs.Prelude.{◌≡◌, ◌+◌, ◌*◌, ◌^◌, ◌<◌, ◌≤◌};
+ghost use Rattle.std.specs.Prelude.{◌≡◌, ◌+◌, ◌*◌, ◌%◌, ◌^◌, ◌<◌, ◌≤◌};
 
 // The number of residue classes of the exponents of constants. The first one is empty, because 3 divides no exponent.
 const CLASSES: usize = 3;
@@ -29,6 +29,7 @@ pub(crate) struct Plan {
     ghost few_levels: { levels ≤ 16 },
     ghost some: { (1 ≤ window) × ((1 ≤ block) × (1 ≤ columns)) },
     ghost few_columns: { columns ≤ 2 ^ 16 },
+    ghost whole: { columns % 32 ≡ 0 },
     ghost fit: { window + block ≤ 2 ^ levels + 1 },
 }
 
@@ -70,7 +71,8 @@ fn windows_for(exponents: usize, window: usize) -> usize
 /// How many columns of words go through the levels at a time: as many as `rows` rows hold in `room` bytes, at least 32
 /// and at most 1,024. The outputs have `words` words each, which are divided about equally.
 pub(crate) fn columns_for(rows: usize, words: usize, room: usize) -> usize
-    ensures { (1 ≤ result) × (result ≤ 1024) }
+    ensures few { (1 ≤ result) × (result ≤ 1024) }
+    ensures whole { result % 32 ≡ 0 }
 {
     let each = room / rows.max(1) / 2;
     let most = (each / STEP * STEP).clamp(STEP, 1024);

@@ -1,8 +1,9 @@
-//! The rows of words that a transform works on, kept as bytes. Row u has the values of point u (or coefficient u), and
+//! The rows of words that a transform works on. Row u has the values of point u (or coefficient u), and
 //! each column of words is transformed by itself.
 #![tactic(auto, using(crate::proofs::GridLaws::steps))]
 
-ghost use Rattle.std.specs.Prelude.{◌≡◌, ℕ, ◌+◌, ◌*◌, ◌^◌, ◌<◌, ◌≤◌, length, IfOk};
+ghost use Rattle.std.specs.Prelude.{◌≡◌, ℕ, ◌+◌, ◌*◌, ◌%◌, ◌^◌, ◌<◌, ◌≤◌, length, IfOk};
+ghost use Rattle.par2_gf16.specs.Vectors.{word_of};
 ghost use Rattle.par2_spec.specs.Field.{mul};
 ghost use Rattle.par2_spec.specs.Slices.{word};
 ghost use Rattle.par2_spec.specs.Sums.{GivesElements};
@@ -10,20 +11,19 @@ ghost use Rattle.par2_transform.specs.Adding.{times};
 ghost use Rattle.par2_transform.specs.Grids.{column, AreCopied, AreTwoRuns, EachColumn, HasSize, IsAdded};
 ghost use Rattle.par2_transform.specs.LevelSteps.{RunAddedBy, IsButterfly};
 
-use crate::buffers::{
-    Multiplier, add_words, add_words_within, butterfly_within, clear, copy_padded, copy_words,
-    fit_bytes,
-};
-use par2_gf16::{Factor, Gf};
+use crate::buffers::copy_padded;
+use crate::vectors::{self, Multiplier};
+use par2_gf16::{Factor, WordVector};
 use std::alloc::{AllocError, Global};
 use std::marker::Model;
 
-/// `2 ^ levels` rows of words, one after the other. A word is two bytes, the lower one first.
+/// `2 ^ levels` rows of words, one after the other, each of whole vectors.
 #[derive(Drop)]
 pub(crate) struct Rows {
     levels: u32,
-    words: usize,
-    bytes: Vec<u8>,
+    // The number of vectors of a row.
+    width: usize,
+    vectors: Vec<WordVector>,
     // A buffer for the bytes that are added to a row. They are copied first, because a copy reads memory faster than
     // the products do.
     source: Vec<u8>,
@@ -37,29 +37,31 @@ impl Model for Rows {
 
     ghost view = { λ a. record {
       levels = a.levels;
-      words = a.words;
-      bytes = a.bytes.items;
+      words = 32 * a.width;
+      vectors = a.vectors.items;
     } };
 
-    ghost invariant = { λ a. AreRows a.levels a.words a.bytes.items
-        × (length a.source.items ≡ 2 * a.words) };
+    ghost invariant = { λ a. AreRows a.levels a.width a.vectors.items
+        × (length a.source.items ≡ 64 * a.width) };
 }
 
 impl Rows {
-    /// `2 ^ levels` rows of `words` zeros each.
+    /// `2 ^ levels` rows of `words` zeros each. A row has whole vectors of thirty-two words.
     pub(crate) fn new(alloc: Global, levels: u32, words: usize) -> Result<Rows, AllocError>
         requires few { levels ≤ 16 }
         requires fit { words ≤ 2 ^ 16 }
+        requires whole { words % 32 ≡ 0 }
         ensures levels { IfOk result (λ rows. rows.levels ≡ levels) }
         ensures words { IfOk result (λ rows. rows.words ≡ words) }
         ensures zero { IfOk result (λ rows. (c u : ℕ) → column rows c u ≡ 0) }
     {
-        let bytes = vec![in alloc; 0u8; (1 << levels) * (2 * words)]?;
-        let source = vec![in alloc; 0u8; 2 * words]?;
+        let width = words / 32;
+        let vectors = vec![in alloc; WordVector::zeros(); (1 << levels) * width]?;
+        let source = vec![in alloc; 0u8; 64 * width]?;
         Ok(Rows {
             levels,
-            words,
-            bytes,
+            width,
+            vectors,
             source,
         })
     }
@@ -78,24 +80,24 @@ impl Rows {
         ensures words { self.new.words ≡ self.old.words }
         ensures zero { (c u : ℕ) → column self.new c u ≡ 0 }
     {
-        clear(self.bytes.as_mut_slice());
+        vectors::clear(self.vectors.as_mut_slice());
     }
 
-    // The number of words before row u.
+    // The number of vectors before row u.
     fn place(&self, u: usize) -> usize
         requires { u ≤ 2 ^ self.now.levels }
-        ensures { result ≡ u * self.now.words }
+        ensures { 32 * result ≡ u * self.now.words }
     {
-        u * self.words
+        u * self.width
     }
 
-    /// The bytes of row u.
-    pub(crate) fn row(&self, u: usize) -> &[u8]
+    /// The words of row u.
+    pub(crate) fn row(&self, u: usize) -> &[WordVector]
         requires { u < 2 ^ self.now.levels }
-        ensures size { length result.now ≡ 2 * self.now.words }
-        ensures words { (c : ℕ) → word c result.now ≡ column self.now c u }
+        ensures size { 32 * length result.now ≡ self.now.words }
+        ensures words { (c : ℕ) → word_of result.now c ≡ column self.now c u }
     {
-        &self.bytes[2 * self.place(u)..2 * self.place(u + 1)]
+        &self.vectors[self.place(u)..self.place(u + 1)]
     }
 
     /// Copies the first `count` of the other rows.
@@ -105,37 +107,29 @@ impl Rows {
         ensures { AreCopied count other.now self.old self.new }
     {
         let count = self.place(count);
-        copy_words(&other.bytes, self.bytes.as_mut_slice(), count);
+        vectors::copy(&other.vectors, self.vectors.as_mut_slice(), count);
     }
 
     /// Adds the factor times word c of the bytes to word c of row `to`. Bytes shorter than a row are padded with zeros.
-    pub(crate) fn add_bytes(&mut self, gf: &Gf, factor: &Factor, bytes: &[u8], to: usize)
+    pub(crate) fn add_bytes(&mut self, factor: &Factor, bytes: &[u8], to: usize)
         requires place { to < 2 ^ self.old.levels }
         ensures { IsAdded self.old self.new to (λ c. mul factor.now (word c bytes.now)) }
     {
-        let (start, end) = (self.place(to), self.place(to + 1));
+        let start = self.place(to);
         copy_padded(bytes, self.source.as_mut_slice());
-        let by = Multiplier::Factor(gf, factor);
-        add_words(by, &self.source, self.bytes.as_mut_slice(), start, end);
+        let vectors = self.vectors.as_mut_slice();
+        vectors::add_bytes(factor, &self.source, vectors, start, self.width);
     }
 
     /// Adds the factor times row `from` of the other rows to row `to`.
-    pub(crate) fn add_other(
-        &mut self,
-        gf: &Gf,
-        factor: &Factor,
-        other: &Rows,
-        from: usize,
-        to: usize,
-    )
+    pub(crate) fn add_other(&mut self, factor: &Factor, other: &Rows, from: usize, to: usize)
         requires place { to < 2 ^ self.old.levels }
         requires other { from < 2 ^ other.now.levels }
         requires same { other.now.words ≡ self.old.words }
         ensures { IsAdded self.old self.new to (λ c. mul factor.now (column other.now c from)) }
     {
-        let (start, end) = (self.place(to), self.place(to + 1));
-        let by = Multiplier::Factor(gf, factor);
-        add_words(by, other.row(from), self.bytes.as_mut_slice(), start, end);
+        let start = self.place(to);
+        vectors::add_products(factor, other.row(from), self.vectors.as_mut_slice(), start);
     }
 
     /// Adds the `count` rows from row `from` on, multiplied, to those from row `to` on. They don't overlap.
@@ -144,31 +138,24 @@ impl Rows {
         ensures { EachColumn (RunAddedBy (times by.entry) from to count) self.old self.new }
     {
         let (from, to, count) = (self.place(from), self.place(to), self.place(count));
-        add_words_within(by, self.bytes.as_mut_slice(), from, to, count);
+        vectors::add_within(by, self.vectors.as_mut_slice(), from, to, count);
     }
 
     /// The butterfly: adds the factor times the `count` rows from row `high` on to those from row `low` on, and then these
     /// to those from row `high` on.
-    pub(crate) fn butterfly(
-        &mut self,
-        gf: &Gf,
-        factor: &Factor,
-        low: usize,
-        high: usize,
-        count: usize,
-    )
+    pub(crate) fn butterfly(&mut self, factor: &Factor, low: usize, high: usize, count: usize)
         requires order { low + count ≤ high }
         requires high { high + count ≤ 2 ^ self.old.levels }
         ensures { EachColumn (IsButterfly (mul factor.now) low high count) self.old self.new }
     {
         let (low, high, count) = (self.place(low), self.place(high), self.place(count));
-        butterfly_within(gf, factor, self.bytes.as_mut_slice(), low, high, count);
+        vectors::butterfly(factor, self.vectors.as_mut_slice(), low, high, count);
     }
 
     /// For the prover: each word is below 2 ^ 16.
     pub(crate) fn fit(&self)
         ensures { (c : ℕ) → GivesElements (column self.now c) }
     {
-        fit_bytes(&self.bytes);
+        let _ = &self.width;
     }
 }

@@ -97,7 +97,7 @@ impl<'a> Windows<'a> {
         let m = a * self.plan.window + i;
         let slice = self.slices.at_power(self.plan.classes * m + r);
         let factor = Factor::new(self.inverse(m));
-        rows.add_bytes(self.gf, &factor, bytes_from(slice, from), i);
+        rows.add_bytes(&factor, bytes_from(slice, from), i);
     }
 
     // Sets row i to coefficient i of window a of class r, in the columns from word `from` of the slices on.
@@ -129,8 +129,8 @@ impl<'a> Windows<'a> {
             (GathersWindow (cut_of self.now.plan) self.now.slices r a from) blocks.old blocks.new }
     {
         self.fill(r, a, from, rows);
-        values_at_points(self.gf, rows, self.plan.window);
-        gather_all(self.gf, a, rows, blocks);
+        values_at_points(rows, self.plan.window);
+        gather_all(a, rows, blocks);
     }
 
     // Gathers all windows of class r in all blocks, whose sums it resets first. The columns begin with word `from`.

@@ -1,4 +1,4 @@
-use Rattle.par2_gf16.proofs.Common.{◌+◌, ◌*◌, ◌≡◌, ◌<◌, subst, sym, arith, length, take, drop, HasNibbles}
+use Rattle.par2_gf16.proofs.Common.{ℕ, mul, word, ◌+◌, ◌*◌, ◌≡◌, ◌<◌, subst, sym, arith, length, take, drop, HasNibbles}
 use Rattle.par2_gf16.proofs.Parts.{adds_after}
 use Rattle.par2_gf16.proofs.columns.Columns.add_blocks.Goals as goal
 
@@ -15,4 +15,4 @@ loop-block-preserved c =
     let has = subst (λ b. HasNibbles (take 64 (drop (2 * at) it.bytes.now)) b) (sym c.index.ensures) (c.self.invariant.split n c.index.result.now low) in
     let is : it.from + 32 * (n + 1) ≡ at + 32 = omega arith in
     rw (← c.self.view_is, is)
-    (adds_after factor it.bytes.now old mid new it.from at (at + 32) (omega arith) (omega arith) (rw (← c.self.view_is) at c.loop-block.invariant) (c.add_nibbles.ensures it.bytes.now c.self.invariant.fits has))
+    (adds_after (λ (i : ℕ). mul factor (word i it.bytes.now)) old mid new it.from at (at + 32) (omega arith) (omega arith) (rw (← c.self.view_is) at c.loop-block.invariant) (c.add_nibbles.ensures it.bytes.now has))

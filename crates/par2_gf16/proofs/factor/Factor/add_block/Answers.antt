@@ -1,4 +1,4 @@
 use Rattle.par2_gf16.proofs.factor.Factor.add_block.Goals as goal
 
 pub returns : goal.returns
-returns c = c.add_nibbles.ensures c.args.src.now (λ i. (c.type_inv.src i).fits) c.nibbles_at.ensures
+returns c = c.add_nibbles.ensures c.args.src.now c.nibbles_at.ensures

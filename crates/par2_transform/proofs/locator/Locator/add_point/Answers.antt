@@ -19,8 +19,8 @@ returns-then-u-self c =
     let first = coset_first self.levels c.args.coset (omega (arith, self.few, self.numerators.few)) c.requires.coset in
     let size = shifted_most self.levels (omega (arith, self.few, self.numerators.few)) in
     point_taken c.args.columns.now.outputs.places.now c.args.columns.now.outputs.words self.numbers.items self.levels c.args.coset c.args.j c.args.columns.now.from c.args.columns.now.to c.word_or_zero-factor.result (get_or self.factors.items c.args.j 0)
-    (c.word_or_zero-number.result - c.args.coset * 2 ^ self.levels % 18446744073709551616) c.row.result.now c.args.rows.now (lists_of c.args.buffers.now) (lists_of c.add.new.buffers)
-    factor c.row.ensures.words (omega (arith, first, number)) (omega (arith, first, number, c.if-number-first.false)) (omega (arith, first, number, size, c.if-number-first.false, c.if-u-self.true)) c.add.ensures
+    (c.word_or_zero-number.result - c.args.coset * 2 ^ self.levels % 18446744073709551616) c.row.result.now c.args.rows.now (lists_of c.args.buffers.now) (lists_of c.add_products.new.buffers)
+    factor c.row.ensures.words (omega (arith, first, number)) (omega (arith, first, number, c.if-number-first.false)) (omega (arith, first, number, size, c.if-number-first.false, c.if-u-self.true)) c.add_products.ensures
 
 pub returns-else-u-self : goal.returns-else-u-self
 returns-else-u-self c =

@@ -1,4 +1,4 @@
-use Rattle.par2_transform.proofs.Common.{ℕ, List, ◌-◌, subst, arith, AreCopied, AreListedValues, EachColumn, slice_index}
+use Rattle.par2_transform.proofs.Common.{ℕ, List, subst, arith, AreCopied, AreListedValues, EachColumn, slice_index}
 use Rattle.par2_transform.proofs.LocatorLaws.{shifted_most, values_of}
 use Rattle.par2_transform.proofs.locator.Locator.evaluate.Goals as goal
 

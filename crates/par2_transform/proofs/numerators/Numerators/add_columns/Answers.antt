@@ -9,8 +9,8 @@ loop-t-preserved c =
     let sources = byte_lists c.args.sources.now in
     let numerators = c.sum.ensures.numerators in
     let low : l.t < length c.args.columns.now.outputs.places.now = search rules in
-    next_row_added c.args.columns.now.outputs.places.now c.args.columns.now.outputs.words c.args.columns.now.from c.args.columns.now.to l.t (λ t p. numerator self.sequence.items (words_at sources p) t) c.row.result.now (lists_of c.args.buffers.now) (lists_of l.buffers) (lists_of c.add.new.buffers)
-    l.invariant c.add.ensures
+    next_row_added c.args.columns.now.outputs.places.now c.args.columns.now.outputs.words c.args.columns.now.from c.args.columns.now.to l.t (λ t p. numerator self.sequence.items (words_at sources p) t) c.row.result.now (lists_of c.args.buffers.now) (lists_of l.buffers) (lists_of c.add_products.new.buffers)
+    l.invariant c.add_products.ensures
     (λ p first last.
     let place : c.args.columns.now.from + (p - c.args.columns.now.from) ≡ p = omega (arith, first) in
     ap (mul 1)

@@ -1,14 +1,25 @@
-use Rattle.par2_transform.proofs.Common.{rules, ◌+◌, ◌*◌, ◌^◌, ◌<◌, ◌∙◌, ap, sym, subst, mul, word, Grid}
-use Rattle.par2_transform.proofs.GridLaws.{added_same, row_written}
+use Rattle.par2_transform.proofs.Common.{rules, ◌≡◌, ◌*◌, ◌∙◌, ap, sym, subst, List, length, with_items_is, mul, word_of, AddsToRun, Grid, IsAdded, WordVector}
+use Rattle.par2_transform.proofs.GridLaws.{added_same, kept_rows, row_added}
 use Rattle.par2_transform.proofs.rows.Rows.add_other.Goals as goal
+
+pub invariant_of-self : goal.invariant_of-self
+invariant_of-self c =
+    let inside = c.self.inside in
+    (kept_rows inside.levels inside.width inside.vectors c.as_mut_slice.result.now c.add_products.new.vectors c.self.invariant.0 c.as_mut_slice.ensures.value c.add_products.ensures.kept (search rules), c.self.invariant.1)
 
 pub returns : goal.returns
 returns c =
     let inside = c.self.inside in
-    let view = sym c.self.view_is in
+    let old = inside.vectors.items in
+    let new = c.add_products.new.vectors in
+    let size : length new ≡ inside.vectors.len = search rules in
+    let by = mul c.args.factor.now in
+    let row = c.row.result.now in
+    let start = c.place-start.result in
+    let words : 32 * length row ≡ 32 * inside.width = c.row.ensures.size ∙ c.requires.same ∙ ap (λ (g : Grid). g.words) (sym c.self.view_is) in
+    let added = subst (λ (xs : List WordVector). AddsToRun (32 * start) (32 * length row) (λ e. by (word_of row e)) (word_of xs) (word_of new)) c.as_mut_slice.ensures.value c.add_products.ensures.added in
     rw (← c.self.view_is)
     (added_same
-    (row_written inside.levels inside.words c.args.to c.place-start.result c.place-end.result (λ q. mul c.args.factor.now (word q c.row.result.now)) inside.bytes _ c.add_words.new.bytes c.self.invariant.0
-    (subst (λ (g : Grid). c.args.to < 2 ^ g.levels) view c.requires.place) (c.place-start.ensures ∙ ap (λ (g : Grid). c.args.to * g.words) view) (c.place-end.ensures ∙ ap (λ (g : Grid). (c.args.to + 1) * g.words) view)
-    c.as_mut_slice.ensures.value (search rules) c.add_words.ensures)
-    (λ k h. ap (mul c.args.factor.now) (c.row.ensures.words k)))
+    (subst (λ (xs : List WordVector). IsAdded (record { levels = inside.levels; words = 32 * inside.width; vectors = old }) (record { levels = inside.levels; words = 32 * inside.width; vectors = xs }) c.args.to (λ e. by (word_of row e))) (sym (with_items_is inside.vectors new size))
+    (row_added inside.levels (32 * inside.width) c.args.to (32 * start) (32 * length row) (λ e. by (word_of row e)) old new (rw (← c.self.view_is) at c.place-start.ensures) words added))
+    (λ k h. ap by (c.row.ensures.words k)))

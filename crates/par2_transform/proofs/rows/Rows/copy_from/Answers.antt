@@ -1,20 +1,18 @@
-use Rattle.par2_transform.proofs.Common.{rules, ◌≡◌, ◌*◌, ◌∙◌, ap, sym, subst, List, ℕ, length, with_items_is, AreCopied, CopiesWords, Grid}
+use Rattle.par2_transform.proofs.Common.{rules, ◌≡◌, ◌*◌, ◌∙◌, ap, sym, subst, List, length, with_items_is, AreCopied, CopiesVectors, Grid, WordVector}
 use Rattle.par2_transform.proofs.GridLaws.{rows_copied}
 use Rattle.par2_transform.proofs.rows.Rows.copy_from.Goals as goal
 
 pub returns : goal.returns
 returns c =
     let inside = c.self.inside in
-    let old = inside.bytes.items in
-    let new = c.copy_words.new.dst in
-    let size : length new ≡ inside.bytes.len = search rules in
-    let count : c.place-count.result ≡ c.args.count * inside.words = c.place-count.ensures ∙ ap (λ (g : Grid). c.args.count * g.words) (sym c.self.view_is) in
+    let old = inside.vectors.items in
+    let new = c.copy.new.dst in
+    let size : length new ≡ inside.vectors.len = search rules in
+    let count = c.place-count.result in
     let same = c.requires.same.words ∙ ap (λ (g : Grid). g.words) (sym c.self.view_is) in
-    let source = c.deref.ensures.value ∙ ap (λ (g : Grid). g.bytes) c.other.view_is in
-    let copied : CopiesWords (c.args.count * inside.words) c.args.other.now.bytes old new =
-    subst (λ n. CopiesWords n c.args.other.now.bytes old new) count
-    (subst (λ xs. CopiesWords c.place-count.result xs old new) source
-    (subst (λ xs. CopiesWords c.place-count.result c.deref.result.now xs new) c.as_mut_slice.ensures.value c.copy_words.ensures)) in
+    let source = c.deref.ensures.value ∙ ap (λ (g : Grid). g.vectors) c.other.view_is in
+    let copied : CopiesVectors count c.args.other.now.vectors old new =
+    subst (λ xs. CopiesVectors count xs old new) source (subst (λ xs. CopiesVectors count c.deref.result.now xs new) c.as_mut_slice.ensures.value c.copy.ensures) in
     rw (← c.self.view_is)
-    (subst (λ (xs : List ℕ). AreCopied c.args.count c.args.other.now (record { levels = inside.levels; words = inside.words; bytes = old }) (record { levels = inside.levels; words = inside.words; bytes = xs })) (sym (with_items_is inside.bytes new size))
-    (rows_copied inside.levels inside.words c.args.count c.args.other.now old new same copied))
+    (subst (λ (xs : List WordVector). AreCopied c.args.count c.args.other.now (record { levels = inside.levels; words = 32 * inside.width; vectors = old }) (record { levels = inside.levels; words = 32 * inside.width; vectors = xs })) (sym (with_items_is inside.vectors new size))
+    (rows_copied inside.levels (32 * inside.width) c.args.count count c.args.other.now old new same (rw (← c.self.view_is) at c.place-count.ensures) copied))

@@ -2,6 +2,9 @@ use Rattle.par2_transform.proofs.Common.{rules, ◌≡◌, ◌+◌, ◌∙◌, s
 use Rattle.par2_transform.proofs.ColumnLaws.{begins, next_words, all_words}
 use Rattle.par2_transform.proofs.windows.Windows.add_words.Goals as goal
 
+pub columns-columns-requires : goal.columns-columns-requires
+columns-columns-requires c = begins c.args.outputs.now.words c.args.self.now.plan.columns c.loop-k.k c.div_ceil-k-end.result (let some = c.args.self.now.plan.some.1.1 in omega (arith, some)) c.div_ceil-k-end.ensures c.loop-k-test.true
+
 pub loop-k-preserved : goal.loop-k-preserved
 loop-k-preserved c =
     let self = c.args.self.now in
