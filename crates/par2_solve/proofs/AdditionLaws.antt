@@ -35,20 +35,15 @@ sum_word from to sums t p = within from to p (word (p - from) (list_at sums t))
 abbrev pub FirstAdded : List Place → (len n : ℕ) (other : ℕ → ℕ → ℕ) (was buffers : List (List ℕ)) → Type 0
 FirstAdded places len n other was buffers = AddsAt places len (λ t p. within 0 n t (other t p)) was buffers
 
-pub next_sum : (places : List Place) (len from to n : ℕ) (row : List ℕ) (sums was half buffers : List (List ℕ)) → row ≡ list_at sums n → AreByteLists sums → FirstAdded places len n (sum_word from to sums) was half
-    → AddsAt places len (λ t p. within n (n + 1) t (within from to p (mul 1 (word (p - from) row)))) half buffers → FirstAdded places len (n + 1) (sum_word from to sums) was buffers
-next_sum places len from to n row sums was half buffers is bytes so_far added =
-    adds_more places len (λ t p. within 0 n t (sum_word from to sums t p)) (λ t p. within n (n + 1) t (within from to p (mul 1 (word (p - from) row)))) (λ t p. within 0 (n + 1) t (sum_word from to sums t p)) was half buffers so_far added
+pub next_sum : (places : List Place) (len from to n : ℕ) (row : List ℕ) (sums was half buffers : List (List ℕ)) → row ≡ list_at sums n → FirstAdded places len n (sum_word from to sums) was half
+    → AddsAt places len (λ t p. within n (n + 1) t (within from to p (word (p - from) row))) half buffers → FirstAdded places len (n + 1) (sum_word from to sums) was buffers
+next_sum places len from to n row sums was half buffers is so_far added =
+    adds_more places len (λ t p. within 0 n t (sum_word from to sums t p)) (λ t p. within n (n + 1) t (within from to p (word (p - from) row))) (λ t p. within 0 (n + 1) t (sum_word from to sums t p)) was half buffers so_far added
     (λ t p _ _.
     ap (bit_xor (within 0 n t (sum_word from to sums t p)))
-    (within_same n (n + 1) t (within from to p (mul 1 (word (p - from) row))) (sum_word from to sums t p)
-    (λ low high. let same : n ≡ t = omega (arith, low, high) in ap (within from to p) (once (p - from) ∙ ap (λ k. word (p - from) (list_at sums k)) same)))
+    (within_same n (n + 1) t (within from to p (word (p - from) row)) (sum_word from to sums t p)
+    (λ low high. let same : n ≡ t = omega (arith, low, high) in ap (λ xs. within from to p (word (p - from) xs)) (is ∙ ap (list_at sums) same)))
     ∙ within_joined 0 n (n + 1) t (sum_word from to sums t p) (omega arith) (omega arith))
-  where
-    once : (q : ℕ) → mul 1 (word q row) ≡ word q (list_at sums n)
-    once q =
-        let small : word q (list_at sums n) < 65536 = word-lt (list_at sums n) q (bytes n) in
-        ap (λ xs. mul 1 (word q xs)) is ∙ product_comm 1 (word q (list_at sums n)) (omega arith) small ∙ product-one (word q (list_at sums n)) small
 
 -- the sums are those of products of windows, which are parts of slices
 pub sums_are : (places : List Place) (len from to n : ℕ) (rows slices windows sums was buffers : List (List ℕ)) → from ≤ to → windows ≡ map (chunk (2 * from) (2 * (to - from))) slices → n ≡ length slices

@@ -1,12 +1,11 @@
 -- If the first exponents, as many as slices are lost, determine the lost slices, they are the kept ones.
-use Rattle.par2_solve.proofs.Common.{ℕ, zero, suc, ◌+◌, ◌-◌, ◌<◌, ◌≤◌, ◌≡◌, refl, sym, ap, ◌∙◌, subst, arith, Bool, true, false, cond, List, [], ◌∷◌, length, get_or, map, take, filter, Option, Some, None, AllByRecursion, range_with_len, IsStrictlyIncreasing, length-map, length-take, ext_get_or, get_or-take, length-take-le, take-map, length-range_with_len, get_or-range_with_len, kept, kept_slices, AreClose, IsRepairable, is_independent, coefficients, all_from, all_get, all_unmap, filter-map, BeginsWithRun, lost_from, recovered_of, exponents_of, Bor}
+use Rattle.par2_solve.proofs.Common.{ℕ, zero, suc, ◌+◌, ◌-◌, ◌<◌, ◌≤◌, ◌≡◌, refl, sym, ap, ◌∙◌, subst, arith, Bool, true, false, cond, List, [], ◌∷◌, length, get_or, map, take, filter, Option, Some, None, AllByRecursion, range_with_len, IsStrictlyIncreasing, length-take, ext_get_or, get_or-take, length-take-le, length-range_with_len, get_or-range_with_len, kept, AreClose, IsRepairable, is_independent, coefficients, all_from, all_get, BeginsWithRun, lost_from}
 use Rattle.std.proofs.lemmas.List.{take-take}
 use Rattle.std.proofs.lemmas.List.Sums.{count_by-le-length, length-filter}
 use Rattle.par2_spec.proofs.FullRank.{full-iff}
 use Rattle.par2_solve.proofs.Ranks.{is_kept, is_kept_at}
 use Rattle.par2_solve.proofs.Windows.{more_determine}
 use Rattle.par2_solve.proofs.Runs.{rises_between, close_ends, close_range, take_rises}
-use Rattle.par2_solve.proofs.Standing.{kept_slices_are}
 
 -- ---- the first exponents
 
@@ -92,28 +91,8 @@ first_pass ks es rise within enough =
 count_first : (ks es : List ℕ) → IsStrictlyIncreasing es → IsRepairable ks (take (length ks) es) → length (kept ks es) ≡ length ks
 count_first ks es rise enough = (full-iff ks es rise).1 (more_determine ks es (length ks) enough)
 
-pub kept_slices_first : (ks : List ℕ) (recs : List (ℕ × List ℕ)) → IsStrictlyIncreasing (map (λ r. r.0) recs) → length ks ≤ length (map (λ r. r.0) recs) → IsRepairable ks (take (length ks) (map (λ r. r.0) recs))
-    → kept_slices ks (map (λ r. r.0) recs) recs ≡ take (length ks) recs
-kept_slices_first ks recs rise within enough =
-    kept_slices_are ks recs ∙ filter_first p n recs count (all_unmap (λ e. is_kept ks all e ≡ true) (λ (r : ℕ × List ℕ). r.0) (take n recs) passes)
-  where
-    all : List ℕ
-    all = map (λ (r : ℕ × List ℕ). r.0) recs
-
-    n : ℕ
-    n = length ks
-
-    p : ℕ × List ℕ → Bool
-    p r = is_kept ks all r.0
-
-    count : length (filter p recs) ≡ n
-    count =
-        sym (length-map (filter p recs) (λ (r : ℕ × List ℕ). r.0))
-        ∙ ap length (sym (filter-map (is_kept ks all) (λ (r : ℕ × List ℕ). r.0) recs))
-        ∙ count_first ks all rise enough
-
-    passes : AllByRecursion (λ e. is_kept ks all e ≡ true) (map (λ (r : ℕ × List ℕ). r.0) (take n recs))
-    passes = subst (λ es. AllByRecursion (λ e. is_kept ks all e ≡ true) es) (take-map (λ (r : ℕ × List ℕ). r.0) n recs) (first_pass ks all rise within enough)
+pub kept_first : (ks es : List ℕ) → IsStrictlyIncreasing es → length ks ≤ length es → IsRepairable ks (take (length ks) es) → kept ks es ≡ take (length ks) es
+kept_first ks es rise within enough = filter_first (is_kept ks es) (length ks) es (count_first ks es rise enough) (first_pass ks es rise within enough)
 
 -- ---- the numbers of the lost slices
 
@@ -134,12 +113,3 @@ lost_rise a (None ∷ known) (suc k) h =
     let e : suc k + 1 ≡ suc (k + 1) = omega arith in
     let more = lost_rise (a + 1) known k (omega (arith, h)) in
     subst (λ n. get_or (lost_from (a + 1) known) k 0 < get_or (a ∷ lost_from (a + 1) known) n 0) (sym e) more
-
--- ---- the recovery slices of the run
-
-pub recovered_front : (recovery first : List (ℕ × Bor (List ℕ))) (n : ℕ) → first ≡ take n recovery → recovered_of first ≡ take n (recovered_of recovery)
-recovered_front recovery first n is = ap (λ (rs : List (ℕ × Bor (List ℕ))). recovered_of rs) is ∙ sym (take-map (λ (r : ℕ × Bor (List ℕ)). (r.0, r.1.now)) n recovery)
-
--- the exponents of the first recovery slices
-pub exponents_front : (recovery first : List (ℕ × Bor (List ℕ))) (n : ℕ) → recovered_of first ≡ take n (recovered_of recovery) → exponents_of first ≡ take n (exponents_of recovery)
-exponents_front recovery first n is = ap (map (λ r. r.0)) is ∙ sym (take-map (λ (r : ℕ × List ℕ). r.0) n (recovered_of recovery))

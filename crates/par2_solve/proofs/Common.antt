@@ -20,9 +20,9 @@ pub use Rattle.std.specs.Prelude.{IfErr, IfSome, IsNone, IsPermutation, None, Ok
 pub use Rattle.std.specs.Vec.{with_items}
 pub use Rattle.par2_matrix.specs.Systems.{AreSolutionBuffers, CutDown, Equations, IsDependent, IsIndependent, IsTheSolution, OnlyZeroIsKilled, Solves}
 pub use Rattle.par2_matrix.specs.declared.system.Offer.TheVariants.{Dependent, Kept}
-pub use Rattle.par2_solve.specs.Inverses.{AreByteRows, AreScaledQuotients, BeginsWithRun, IsEliminated, IsInverseMatrix, IsScaledQuotient, IsUnit, identity, recovery_at}
+pub use Rattle.par2_solve.specs.Inverses.{AreByteRows, AreScaledQuotients, BeginsWithRun, IsEliminated, IsInverseMatrix, IsScaledQuotient, IsUnit, identity}
 pub use Rattle.par2_solve.specs.BufferContents.{Adds, AddsSource, AreBlank, AreByteLists, AreExtended, AreProducts, AreRun, AreSolved, AreSums, all_coefficients, buffers_of, chunk, products, syndrome}
-pub use Rattle.par2_solve.specs.Rebuilding.{AreRebuilt, CanRebuild, IsTrueFault, bytes_or_none, exponents_of, known_alone, known_among, known_of, lost_from, recovered_of, with_lost_slices}
+pub use Rattle.par2_solve.specs.Rebuilding.{AreRebuilt, CanRebuild, IsTrueFault, bytes_or_none, exponents_of, known_alone, known_among, known_of, lost_from, recovered_of, with_exponents, with_lost_slices}
 pub use Rattle.par2_spec.proofs.FieldConstants.{constant-injective, constant-lt, constant-nonzero, length-constant_powers}
 pub use Rattle.par2_spec.proofs.FieldOrder.{no_zero_divisor, power-lt, product-zero, zero-product}
 pub use Rattle.par2_spec.proofs.FieldProducts.{product-lt, product-one, product_assoc, product_comm, product_linear_left, product_linear_right}
@@ -46,7 +46,8 @@ pub use Rattle.par2_spec.specs.Search.{lost}
 pub use Rattle.par2_spec.specs.Slices.{padded, word}
 pub use Rattle.par2_spec.specs.Sums.{GivesElements, list_at, lists_of}
 unfoldable pub use Rattle.par2_spec.specs.Sums.{field_sum}
-pub use Rattle.par2_transform.proofs.AddingLaws.{adds_more, adds_same, still_within, within-in, within_joined, within_same, zeros_read}
+pub use Rattle.par2_gf16.proofs.Parts.{zeros_read}
+pub use Rattle.par2_transform.proofs.AddingLaws.{adds_more, adds_same, still_within, within-in, within_joined, within_same}
 pub use Rattle.par2_transform.proofs.GroupLaws.{adds_to_group, group_within, length-group}
 pub use Rattle.par2_transform.specs.Adding.{AddsAt, AddsToEach, AreApart, LieWithin, place_at, within}
 pub use Rattle.par2_transform.specs.Columns.{recovered}

@@ -1,5 +1,5 @@
 -- The result once the kept exponents are known.
-use Rattle.par2_solve.proofs.Common.{ℕ, ◌<◌, ◌≤◌, ◌≡◌, sym, ap, ◌∙◌, subst, arith, List, [], Vec, Global, length, get_or, map, bit_xor, Bor, Option, AllByRecursion, get_or-map, length-map, word, Agrees, IsRepairable, kept_slices, lost, lists_of, list_at, length-lists_of, all_from, all_get, all-filter, agreeing_are_one, recovery_at, IsInverseMatrix, AreByteLists, CanRebuild, AreRebuilt, known_among, with_lost_slices, lost_from, recovered_of, exponents_of, bytes_or_none, recovered, syndrome, AreSolved, coefficients, recovery, dot}
+use Rattle.par2_solve.proofs.Common.{ℕ, ◌<◌, ◌≤◌, ◌≡◌, sym, ap, ◌∙◌, subst, arith, List, [], Vec, Global, length, get_or, map, bit_xor, Bor, Option, AllByRecursion, get_or-map, length-map, word, Agrees, IsRepairable, kept_slices, lost, lists_of, list_at, length-lists_of, all_from, all_get, all-filter, agreeing_are_one, IsInverseMatrix, AreByteLists, CanRebuild, AreRebuilt, known_among, with_lost_slices, lost_from, recovered_of, exponents_of, bytes_or_none, recovered, syndrome, AreSolved, coefficients, recovery, dot}
 use Rattle.par2_solve.specs.Inverses.{Inverts, IsInverseOf}
 use Rattle.par2_solve.specs.declared.rebuild_slices.Survivors as code
 use Rattle.par2_solve.specs.declared.solver.Inverse.{Inverse}
@@ -81,10 +81,10 @@ answer survivors can missing kept made lost_is chosen square enough bytes kept_b
     sizes : AllByRecursion (λ (r : ℕ × List ℕ). length r.1 ≡ s) kept
     sizes = subst (λ rs. AllByRecursion (λ (r : ℕ × List ℕ). length r.1 ≡ s) rs) (sym chosen) (all-filter (λ (r : ℕ × List ℕ). length r.1 ≡ s) _ recs can.recovery)
 
-    each : (j : ℕ) → j < length kept → recovery s slices (recovery_at kept j).0 ≡ (recovery_at kept j).1
+    each : (j : ℕ) → j < length kept → recovery s slices (get_or kept j (0, [])).0 ≡ (get_or kept j (0, [])).1
     each j h =
-        let e : ℕ = (recovery_at kept j).0 in
-        let found : List ℕ = (recovery_at kept j).1 in
+        let e : ℕ = (get_or kept j (0, [])).0 in
+        let found : List ℕ = (get_or kept j (0, [])).1 in
         let exponent : get_or es j 0 ≡ e = get_or-map (λ (r : ℕ × List ℕ). r.0) kept j (0, []) 0 h in
         let is_found : list_at given j ≡ found = get_or-map (λ (r : ℕ × List ℕ). r.1) kept j (0, []) [] h in
         equation s e raw found made can.even sized (count ∙ ap length lost_is) (all_get (λ (r : ℕ × List ℕ). length r.1 ≡ s) kept j (0, []) h sizes) (subst (λ xs. (k : ℕ) → get_or xs k 0 < 256) is_found (kept_bytes j))

@@ -1,21 +1,8 @@
 -- The inverse of the matrix of the kept exponents.
-use Rattle.par2_solve.proofs.Common.{inl, inr, ℕ, ◌+◌, ◌*◌, ◌/◌, ◌%◌, ◌<◌, ◌≤◌, ◌≡◌, ◌≢◌, refl, sym, ap, ◌∙◌, arith, cond, List, [], length, get_or, map, subst, Bor, cases_eq, eq-eqb, ne_eqb, get_or-map, length-map, mul, coefficient, word, dot, coefficients, kept, field_sum, list_at, GivesElements, zero-product, product_comm, product-one, all_at, all_from, all_get, field_sum_same, field_sum_one, coefficients_are, dot-lt, words_are, bytes_at, combination_words, word-lt, Equations, IsTheSolution, AreByteRows, IsUnit, recovery_at, IsEliminated, IsInverseMatrix, identity, recovered_of, buffers_of, AreSolutionBuffers, combination, IsVector, AllByRecursion, ◌^◌}
+use Rattle.par2_solve.proofs.Common.{inl, inr, ℕ, ◌+◌, ◌*◌, ◌/◌, ◌%◌, ◌<◌, ◌≤◌, ◌≡◌, ◌≢◌, refl, sym, ap, ◌∙◌, arith, cond, List, [], length, get_or, map, subst, cases_eq, eq-eqb, ne_eqb, length-map, mul, coefficient, word, dot, coefficients, kept, field_sum, list_at, GivesElements, zero-product, product_comm, product-one, all_at, all_from, all_get, field_sum_same, field_sum_one, coefficients_are, dot-lt, words_are, bytes_at, combination_words, word-lt, Equations, IsTheSolution, AreByteRows, IsUnit, IsEliminated, IsInverseMatrix, identity, AreSolutionBuffers, combination, IsVector, AllByRecursion, ◌^◌}
 use Rattle.par2_matrix.specs.Systems as systems
 use Rattle.par2_solve.proofs.Dots.{combined}
-use Rattle.par2_solve.proofs.Combinations.{coefficients-lt, dot_at, length-buffers_of}
-
--- ---- recovery slices
-
-pub length-recovered_of : (recovery : List (ℕ × Bor (List ℕ))) → length (recovered_of recovery) ≡ length recovery
-length-recovered_of recovery = length-map recovery (λ (r : ℕ × Bor (List ℕ)). (r.0, r.1.now))
-
-pub length-slices : (recovery : List (ℕ × List ℕ)) → length (map (λ r. r.1) recovery) ≡ length recovery
-length-slices recovery = length-map recovery (λ (r : ℕ × List ℕ). r.1)
-
-pub many_buffers : (kept : List (ℕ × Bor (List ℕ))) (buffers : List (Bor (List ℕ))) → buffers_of buffers ≡ map (λ r. r.1) (recovered_of kept) → length buffers ≡ length kept
-many_buffers kept buffers are = sym (length-buffers_of buffers) ∙ ap length are ∙ length-slices (recovered_of kept) ∙ length-recovered_of kept
-
--- ---- sums
+use Rattle.par2_solve.proofs.Combinations.{coefficients-lt, dot_at}
 
 -- ---- the identity
 
@@ -85,17 +72,16 @@ unit_product m n j k row buffers rows fit elements bytes read low is =
     ∙ (combination_words (2 * n) row buffers unit (omega arith) (λ p. dot-lt row (map (word p) buffers) elements (words_are p buffers bytes)) is.size (unit_bytes n j unit is)).0 refl k (omega (arith, low))
     ∙ unit_word n j unit k is
 
-pub are_inverse : (lost : List ℕ) (recs kept_ones : List (ℕ × List ℕ)) (system : Equations) (buffers rows : List (List ℕ)) → IsEliminated lost (length lost) recs kept_ones system → IsTheSolution system buffers
-    → systems.rank system ≡ system.columns → AreByteRows rows buffers (length buffers) → IsInverseMatrix lost (map (λ r. r.0) kept_ones) rows
-are_inverse lost recs kept_ones system buffers rows found solution full are = record {
-  square = length-map kept_ones (λ (r : ℕ × List ℕ). r.0) ∙ kept_count;
+pub are_inverse : (lost exponents kept_ones : List ℕ) (system : Equations) (buffers rows : List (List ℕ)) → IsEliminated lost (length lost) exponents kept_ones system → IsTheSolution system buffers
+    → systems.rank system ≡ system.columns → AreByteRows rows buffers (length buffers) → IsInverseMatrix lost kept_ones rows
+are_inverse lost exponents kept_ones system buffers rows found solution full are = record {
+  square = kept_count;
   count = are.count ∙ count;
   vectors = λ i h. row_vector n system buffers rows solution.are_buffers found.bytes are i (omega (arith, h, count));
   product = λ j k hj hk.
-      let e : ℕ = (recovery_at kept_ones j).0 in
+      let e : ℕ = get_or kept_ones j 0 in
       let fit : length (coefficients lost e) ≤ n = (let long = length-map lost (coefficient e) in omega (arith, long)) in
-      ap (λ x. field_sum n (λ i. mul (get_or (coefficients lost x) i 0) (get_or (list_at rows i) k 0))) (get_or-map (λ (r : ℕ × List ℕ). r.0) kept_ones j (0, []) 0 (omega (arith, hj, kept_count)))
-      ∙ unit_product n n j k (coefficients lost e) buffers rows fit (coefficients_are e lost) solution.are_buffers.bytes (λ i hi. row_read n system buffers rows solution.are_buffers found.bytes are i k (omega (arith, hi, count)) hk) hk
+      unit_product n n j k (coefficients lost e) buffers rows fit (coefficients_are e lost) solution.are_buffers.bytes (λ i hi. row_read n system buffers rows solution.are_buffers found.bytes are i k (omega (arith, hi, count)) hk) hk
       (found.solves buffers solution.are_buffers solution.solves j (omega (arith, hj, kept_count)) hj);
 }
   where
@@ -106,7 +92,7 @@ are_inverse lost recs kept_ones system buffers rows found solution full are = re
     count = solution.are_buffers.count ∙ found.columns
 
     kept_count : length kept_ones ≡ n
-    kept_count = sym found.count ∙ full ∙ found.columns
+    kept_count = ap (λ (ks : List ℕ). length ks) found.are_kept ∙ sym found.rank ∙ full ∙ found.columns
 
 -- ---- the exponents' matrix times the inverse times some elements is these elements
 

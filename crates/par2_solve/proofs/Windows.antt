@@ -1,6 +1,6 @@
 -- The equations of the holes between exponents.
 use Rattle.par2_solve.proofs.Common.{rules, ℕ, zero, suc, ◌+◌, ◌-◌, ◌^◌, ◌<◌, ◌≤◌, ◌≡◌, refl, sym, ap, ap₂, ◌∙◌, ◌↔◌, subst, arith, Bool, true, false, cond, not, inl, inr, List, [], ◌∷◌, ◌++◌, length, get_or, map, filter, take, append-nil, bit_xor, xor_comm, xor_assoc, xor_zero_l, xor_zero_r, AllByRecursion, Contains, range_with_len, IsStrictlyIncreasing, Result, Ok, cases_lt, cases_eq, eqb-true, lt-ltb, le-ltb, false_from_ne_true, length-map, get_or-map, get_or-range_with_len, get_or-map-range_with_len, length-map-range_with_len, length-range_with_len, map-range_with_len_more, Contains-get_or, mul, constant, pow, coefficient, coefficients, dot, field_sum, dot_sum, product_at, dot-lt, coefficients_are, field_sum_same, field_sum_none, product-zero, zero-product, IsVector, IsRepairable, Kills, AreSlices, value, with_roots_elements, length-with_roots, all_at, all_get, all_from, all_unmap, all-each, run_determines, rank, Equations, CutDown, OnlyZeroIsKilled, AreSolutionBuffers, combination, ◌*◌}
-use Rattle.std.specs.Result.{IsOk, MatchResult, is_err}
+use Rattle.std.specs.Result.{IsOk, MatchResult, is_ok}
 use Rattle.std.specs.Prelude.{Err, nat_eq}
 use Rattle.std.proofs.lemmas.List.{get_or_past, map-id}
 use Rattle.std.proofs.lemmas.List.Elements.{filter-append}
@@ -163,21 +163,22 @@ one_place_more es x b is =
     ap (filter (is_hole es)) (range_more x) ∙ filter-append (is_hole es) (range_with_len 0 x) (x ∷ [])
     ∙ ap (λ c. filter (is_hole es) (range_with_len 0 x) ++ cond c (x ∷ []) []) (sym is)
 
-pub window_holds : (es : List ℕ) → IsStrictlyIncreasing es → 0 < length es → length es ≤ span es + 1
-window_holds es rise some = let by = rises_between es rise 0 (length es - 1) (omega arith) (omega (arith, some)) in omega (arith, by, some)
+pub window_holds : (es : List ℕ) → IsStrictlyIncreasing es → length es ≤ span es + 1
+window_holds [] rise = omega arith
+window_holds (e ∷ es) rise = let by = rises_between (e ∷ es) rise 0 (length (e ∷ es) - 1) (omega arith) (omega arith) in omega (arith, by)
 
--- a binary search that finds nothing means a hole
-pub searched_hole : (es : List ℕ) (q : ℕ) (r : Result ℕ ℕ)
+-- a binary search finds what is there
+pub found_among : (es : List ℕ) (q : ℕ) (r : Result ℕ ℕ)
     → MatchResult r (λ i. (i < length es) × (get_or es i 0 ≡ q)) (λ i. (i ≤ length es) × ((k : ℕ) → k < i → get_or es k 0 < q) × ((k : ℕ) → i ≤ k → k < length es → q < get_or es k 0))
-    → is_err r ≡ not (among es q)
-searched_hole es q (Ok i) h = sym (ap not ((among-iff es q).1 (subst (Contains es) h.1 (Contains-get_or es i 0 h.0))))
-searched_hole es q (Err i) h =
-    sym (ap not (false_from_ne_true (among es q) (λ e.
+    → is_ok r ≡ among es q
+found_among es q (Ok i) h = sym ((among-iff es q).1 (subst (Contains es) h.1 (Contains-get_or es i 0 h.0)))
+found_among es q (Err i) h =
+    sym (false_from_ne_true (among es q) (λ e.
     let at = placed es q ((among-iff es q).0 e) in
     elim (cases_lt at.0 i) [
       | inl low ↦ (let less = h.1 at.0 low in absurd (omega (arith, less, at.2)))
       | inr high ↦ (let more = h.2 at.0 high at.1 in absurd (omega (arith, more, at.2)))
-    ])))
+    ]))
 
 -- a number that is contained is found
 pub found_place : (hs : List ℕ) (x : ℕ) (r : Result ℕ ℕ)

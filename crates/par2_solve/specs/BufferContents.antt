@@ -60,6 +60,18 @@ all_coefficients n exponents = map (coefficients (range_with_len 0 n)) exponents
 abbrev pub AreRun : ℕ → List ℕ → Type 0
 AreRun first exponents = (j : ℕ) → j < length exponents → slice_index exponents j ≡ first + j
 
+-- enough slices and exponents that the recovery slices of a run are computed together, by the transform
+abbrev pub AreTogether : ℕ → ℕ → Type 0
+AreTogether slices count = (32 ≤ slices) × (32 ≤ count)
+
+-- the exponents from place `at` up to `end` are consecutive
+abbrev pub AreConsecutive : List ℕ → ℕ → ℕ → Type 0
+AreConsecutive exponents at end = (k : ℕ) → at + k < end → slice_index exponents (at + k) ≡ slice_index exponents at + k
+
+-- the exponents from place `at` up to `end` are consecutive and computed together
+abbrev pub IsLongRun : ℕ → List ℕ → ℕ → ℕ → Type 0
+IsLongRun slices exponents at end = AreTogether slices (end - at) × AreConsecutive exponents at end
+
 -- Word w of syndrome j (Reed-Solomon decoding): that of recovery slice j plus the contribution of the known slices to
 -- it, so it is the contribution of the lost slices.
 abbrev pub syndrome : (exponents : List ℕ) (known slices : List (List ℕ)) → ℕ → ℕ → ℕ

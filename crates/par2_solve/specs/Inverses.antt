@@ -1,5 +1,4 @@
 -- The inverse of the matrix of the kept exponents: its rows, or a form by which it is applied without computing them.
-use Rattle.std.specs.Borrow.{Bor}
 use Rattle.std.specs.List.{AllByRecursion, list_any, range_with_len}
 use Rattle.std.specs.List.Sorted.{IsStrictlyIncreasing}
 use Rattle.std.specs.Prelude.{Bool, List, [], filter, if◌then◌else◌, length, map, nat_lt, not, reverse, slice_index, slice_index_or, take, ℕ, ◌*◌, ◌+◌, ◌-◌, ◌<◌, ◌==◌, ◌^◌, ◌↔◌, ◌≡◌, ◌≢◌, ◌≤◌}
@@ -8,16 +7,14 @@ use Rattle.par2_matrix.specs.Echelon.{HoldsRow}
 use Rattle.par2_matrix.specs.Systems.{AreSolutionBuffers, Equations, IsKilled, OnlyZeroIsKilled, Solves, rank}
 use Rattle.par2_spec.specs.Field.{constant, mul, pow}
 use Rattle.par2_spec.specs.Polynomials.{quotient, times, value, with_roots}
-use Rattle.par2_spec.specs.Rank.{IsRepairable, IsVector, kept_slices}
+use Rattle.par2_spec.specs.Rank.{IsRepairable, IsVector}
 use Rattle.par2_spec.specs.Recovery.{coefficients, combination, dot}
-use Rattle.par2_spec.specs.Search.{lost}
 use Rattle.par2_spec.specs.Slices.{word}
 use Rattle.par2_spec.specs.Sums.{field_sum, list_at, lists_of}
 use Rattle.par2_transform.specs.Columns.{words_at}
 use Rattle.par2_transform.specs.Locators.{numerator, quotient_coefficient}
 use Rattle.par2_transform.specs.declared.locator.Locator.{Locator}
 use Rattle.par2_solve.specs.BufferContents.{AreSolved}
-use Rattle.par2_solve.specs.Rebuilding.{exponents_of, recovered_of}
 use Rattle.par2_solve.specs.declared.filling.Filling.{Filling}
 use Rattle.par2_solve.specs.declared.filling.Origin.{Origin}
 use Rattle.par2_solve.specs.declared.filling.Origin.TheVariants.{Exponent, Hole}
@@ -38,21 +35,16 @@ pub record IsUnit (n i : ℕ) (bytes : List ℕ) : Type 0 where
 
 -- ---- elimination
 
--- recovery slice j with its exponent
-abbrev pub recovery_at : List (ℕ × List ℕ) → ℕ → ℕ × List ℕ
-recovery_at recovery j = slice_index_or recovery j (0, [])
-
--- The system after elimination: its rank is that of the exponents, and its solution is the inverse, because equation j
--- has unit vector j, of `units` elements, as its right-hand side.
-pub record IsEliminated (lost : List ℕ) (units : ℕ) (recovery kept : List (ℕ × List ℕ)) (system : Equations) : Type 0 where
+-- The exponents that elimination kept, and the system after it: its rank is that of the exponents, and its solution is the
+-- inverse, because equation j has unit vector j, of `units` elements, as its right-hand side.
+pub record IsEliminated (lost : List ℕ) (units : ℕ) (exponents kept : List ℕ) (system : Equations) : Type 0 where
   pub columns : system.columns ≡ length lost
   pub bytes : system.bytes ≡ 2 * units
-  pub are_kept : kept ≡ kept_slices lost (map (λ r. r.0) recovery) recovery
-  pub count : rank system ≡ length kept
-  pub rank : rank system ≡ ranks.rank lost (map (λ r. r.0) recovery)
-  pub repairable : OnlyZeroIsKilled system ↔ IsRepairable lost (map (λ r. r.0) recovery)
+  pub are_kept : kept ≡ ranks.kept lost exponents
+  pub rank : rank system ≡ ranks.rank lost exponents
+  pub repairable : OnlyZeroIsKilled system ↔ IsRepairable lost exponents
   pub solves : (buffers : List (List ℕ)) → AreSolutionBuffers system buffers → Solves system buffers
-      → (j : ℕ) → j < length kept → j < units → IsUnit units j (combination (2 * units) (coefficients lost (recovery_at kept j).0) buffers)
+      → (j : ℕ) → j < length kept → j < units → IsUnit units j (combination (2 * units) (coefficients lost (slice_index kept j)) buffers)
 
 -- the identity matrix: 1 on the diagonal, else 0
 abbrev pub identity : ℕ → ℕ → ℕ
@@ -236,10 +228,10 @@ pub record InvertsFirst (lost exponents : List ℕ) (inverse : Inverse) : Type 0
 
 -- ---- kept exponents
 
--- the recovery slices are those of the kept exponents
-abbrev pub KeepsThose : List ℕ → List (ℕ × Bor (List ℕ)) → Inversion → Type 0
-KeepsThose lost recovery found = recovered_of found.kept.items ≡ kept_slices lost (exponents_of recovery) (recovered_of recovery)
+-- the exponents are those that elimination keeps
+abbrev pub KeepsThose : List ℕ → List ℕ → Inversion → Type 0
+KeepsThose lost exponents found = found.kept.items ≡ ranks.kept lost exponents
 
 -- the inverse is that of the matrix of the kept exponents
 abbrev pub HasInverse : List ℕ → Inversion → Type 0
-HasInverse lost found = Inverts lost (exponents_of found.kept.items) found.inverse
+HasInverse lost found = Inverts lost found.kept.items found.inverse

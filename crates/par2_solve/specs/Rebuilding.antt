@@ -1,8 +1,8 @@
 -- What survives of a set's slices, and what is rebuilt from it.
 use Rattle.std.specs.Borrow.{Bor}
-use Rattle.std.specs.List.{AllByRecursion}
+use Rattle.std.specs.List.{AllByRecursion, list_any}
 use Rattle.std.specs.List.Sorted.{IsStrictlyIncreasing}
-use Rattle.std.specs.Prelude.{List, None, Option, Some, Vec, [], length, map, option_map, ℕ, ◌%◌, ◌+◌, ◌∷◌, ◌≡◌, ◌≤◌}
+use Rattle.std.specs.Prelude.{List, None, Option, Some, Vec, [], filter, length, map, option_map, ℕ, ◌%◌, ◌+◌, ◌∷◌, ◌==◌, ◌≡◌, ◌≤◌}
 use Rattle.std.specs.declared.alloc.Global.{Global}
 use Rattle.par2_spec.specs.Rank as ranks
 use Rattle.par2_spec.specs.Rank.{Agrees, AnotherAgrees, IsRebuilt, IsRepairable, TwoAgree, kept_slices}
@@ -24,6 +24,10 @@ recovered_of recovery = map (λ r. (r.0, r.1.now)) recovery
 -- the exponents of the surviving recovery slices
 abbrev pub exponents_of : List (ℕ × Bor (List ℕ)) → List ℕ
 exponents_of recovery = map (λ r. r.0) (recovered_of recovery)
+
+-- the recovery slices of these exponents
+abbrev pub with_exponents : List ℕ → List (ℕ × Bor (List ℕ)) → List (ℕ × List ℕ)
+with_exponents exponents recovery = filter (λ r. list_any (λ e. e == r.0) exponents) (recovered_of recovery)
 
 -- all slices in order, with these buffers in place of the lost ones
 abbrev pub with_lost_slices : List (Option (List ℕ)) → List (List ℕ) → List (List ℕ)

@@ -3,13 +3,13 @@
 //! transform of `par2_transform`, other exponents each as the sum of its products. `with_recovery_slices` makes a
 //! repair's syndromes.
 
-ghost use Rattle.std.specs.Prelude.{◌≡◌, ℕ, ◌+◌, ◌-◌, ◌*◌, ◌^◌, ◌<◌, ◌≤◌, length, map, slice_index, IfOk, IfSome, IsTrue, OnOk};
+ghost use Rattle.std.specs.Prelude.{◌≡◌, ℕ, ◌+◌, ◌-◌, ◌*◌, ◌^◌, ◌<◌, ◌≤◌, ◌⊎◌, length, map, slice_index, IfOk, IfSome, IsTrue, OnOk};
 ghost use Rattle.std.specs.List.{range_with_len};
 ghost use Rattle.par2_spec.specs.Slices.{word};
 ghost use Rattle.par2_spec.specs.Sums.{list_at, lists_of};
 ghost use Rattle.par2_transform.specs.Adding.{within, AddsAt, AddsToEach, HaveWords, LieWithin};
 ghost use Rattle.par2_transform.specs.Columns.{recovered};
-ghost use Rattle.par2_solve.specs.BufferContents.{AddsRecovery, AreRun, HaveAll, LieIn, all_coefficients, buffers_of, products};
+ghost use Rattle.par2_solve.specs.BufferContents.{AddsRecovery, AreConsecutive, AreRun, HaveAll, IsLongRun, LieIn, all_coefficients, buffers_of, products};
 
 use crate::encoder::{Encoder, Recovered, Targets};
 use crate::exponents::coefficients;
@@ -37,7 +37,9 @@ const FEWEST: usize = 32;
 /// Whether the recovery slices of a run of `count` exponents over `slices` input slices are computed together, by the
 /// transform. With few of either, sums of products are faster.
 pub(crate) fn are_together(slices: usize, count: usize) -> bool
-    ensures { IsTrue result → 32 ≤ count }
+    ensures slices { IsTrue result → 32 ≤ slices }
+    ensures count { IsTrue result → 32 ≤ count }
+    ensures all { 32 ≤ slices → 32 ≤ count → IsTrue result }
 {
     slices >= MANY_SLICES && count >= MANY_EXPONENTS
 }
@@ -52,13 +54,7 @@ pub fn numbers_from(alloc: Global, first: u32, count: u32) -> Result<Vec<u32>>
 
 /// Adds sum t to output t in these columns. A sum has these columns only, so its first word belongs to column
 /// `columns.from`. `at` says where each output lies in the buffers.
-pub(crate) fn add_sums(
-    gf: &Gf,
-    sums: &[Vec<u8>],
-    columns: ColumnRange,
-    buffers: &mut [Vec<u8>],
-    at: &Places,
-)
+pub(crate) fn add_sums(sums: &[Vec<u8>], columns: ColumnRange, buffers: &mut [Vec<u8>], at: &Places)
     // There is a sum for each output, and it has a word for each of these columns.
     requires count { length sums.now ≡ length at.now.places.now }
     requires sizes { HaveAll (2 * (columns.to - columns.from)) sums.now }
@@ -75,7 +71,7 @@ pub(crate) fn add_sums(
     let range = Columns { outputs, from, to };
     fit_lists(sums);
     for t in 0..sums.len() {
-        range.add(gf, 1, buffer_at(sums, t), buffers, t);
+        range.add(buffer_at(sums, t), buffers, t);
     }
 }
 
@@ -93,8 +89,7 @@ fn run_end(exponents: &[u32], at: usize) -> usize
     requires { at < length exponents.now }
     ensures beyond { at < result }
     ensures within { result ≤ length exponents.now }
-    ensures run { (k : ℕ) → at + k < result
-        → slice_index exponents.now (at + k) ≡ slice_index exponents.now at + k }
+    ensures run { AreConsecutive exponents.now at result }
 {
     let mut end = at + 1;
     while end < exponents.len() && exponents[end] as u64 == exponents[end - 1] as u64 + 1 {
@@ -110,6 +105,7 @@ fn group_end(exponents: &[u32], at: usize, slices: usize, most: usize) -> usize
     requires some { 1 ≤ most }
     ensures beyond { at < result }
     ensures within { result ≤ length exponents.now }
+    ensures room { IsLongRun slices exponents.now at result ⊎ (result ≤ at + most) }
 {
     let mut end = run_end(exponents, at);
     if are_together(slices, end - at) {
@@ -206,7 +202,7 @@ impl<'a> Encoder<'a> {
         let bytes = 2 * (columns.to - columns.from);
         let windows = windows(alloc, self.slices, 2 * columns.from, bytes)?;
         let sums = products_of(alloc, self.gf, rows, &windows, Size { bytes })?;
-        add_sums(self.gf, &sums, columns, buffers, &targets.outputs);
+        add_sums(&sums, columns, buffers, &targets.outputs);
         Ok(())
     }
 

@@ -2,12 +2,14 @@
 //! exponents first (`rank_by_runs`), which takes no memory, then tries the equations of the holes between them
 //! (`determine`), and last the elimination of all equations.
 
-ghost use Rattle.std.specs.Prelude.{◌≡◌, ◌↔◌, ◌<◌, ◌≤◌, ℕ, length, slice_index, take, IfOk, IfSome, IsNone, IsTrue};
+ghost use Rattle.std.specs.Prelude.{◌≡◌, ◌==◌, ◌↔◌, ◌<◌, ◌≤◌, ℕ, length, slice_index, take, IfOk, IfSome, IsNone, IsTrue};
+ghost use Rattle.std.specs.List.{list_any};
 ghost use Rattle.std.specs.List.Sorted.{IsStrictlyIncreasing};
 ghost use Rattle.par2_spec.specs.Field.{coefficient};
 ghost use Rattle.par2_spec.specs.Recovery.{coefficients};
 ghost use Rattle.par2_spec.specs.Rank.{rank, IsRepairable};
 ghost use Rattle.par2_spec.specs.Runs.{AreClose, AreSlices, HasRun};
+ghost use Rattle.par2_solve.specs.Inverses.{span};
 
 use crate::holes::determine;
 use crate::inverse::eliminate;
@@ -65,16 +67,24 @@ pub(crate) fn are_slices(numbers: &[u32]) -> bool
 }
 
 impl<'a> Exponents<'a> {
+    /// The difference between the last exponent and the first, 0 if there are none.
+    pub(crate) fn span(&self) -> u32
+        ensures { result ≡ span self.now.numbers.now }
+    {
+        if self.numbers.is_empty() {
+            return 0;
+        }
+        self.numbers[self.numbers.len() - 1] - self.numbers[0]
+    }
+
     /// Whether any two of the exponents differ by less than `count`. It is enough to compare the first and the last.
     pub(crate) fn are_close(&self, count: usize) -> bool
         ensures { IsTrue result ↔ AreClose count self.now.numbers.now }
     {
-        let exponents = self.numbers;
-        if exponents.is_empty() {
+        if self.numbers.is_empty() {
             return true;
         }
-        let span = exponents[exponents.len() - 1] - exponents[0];
-        (span as usize) < count
+        (self.span() as usize) < count
     }
 
     // Whether `count` of the exponents are consecutive: they are if they lie within `count` numbers.
@@ -89,6 +99,13 @@ impl<'a> Exponents<'a> {
             }
         }
         false
+    }
+
+    /// Whether `e` is one of the exponents.
+    pub(crate) fn contains(&self, e: u32) -> bool
+        ensures { result ≡ list_any (λ x. e == x) self.now.numbers.now }
+    {
+        self.numbers.binary_search(&e).is_ok()
     }
 
     /// The first `count` exponents, if there are that many.
@@ -125,18 +142,6 @@ pub fn rank_by_runs(lost: &[u32], exponents: &[u32]) -> Option<usize>
     None
 }
 
-// The rank by elimination of the equations of all exponents. It needs neither the bytes of recovery slices nor
-// right-hand sides.
-fn rank_by_elimination(alloc: Global, gf: &Gf, lost: &[u32], exponents: &[u32]) -> Result<usize>
-    requires { IsStrictlyIncreasing exponents.now }
-    ensures { IfOk result (λ n. n ≡ rank lost.now exponents.now) }
-{
-    let none: &[u8] = &[];
-    let unread: Vec<(u32, &[u8])> = exponents.iter().map(|e| (*e, none)).collect(alloc)?;
-    let found = eliminate(alloc, gf, lost, &unread, 0)?;
-    Ok(found.system.rank())
-}
-
 /// The rank by equations: those of the holes between the first exponents if these settle it, otherwise those of all
 /// exponents. A caller that has the field's tables calls `rank`, which asks `rank_by_runs` first.
 pub fn rank_by_equations(alloc: Global, gf: &Gf, lost: &[u32], exponents: &[u32]) -> Result<usize>
@@ -147,7 +152,7 @@ pub fn rank_by_equations(alloc: Global, gf: &Gf, lost: &[u32], exponents: &[u32]
     if determine(alloc, gf, lost, &rising)? {
         return Ok(lost.len());
     }
-    rank_by_elimination(alloc, gf, lost, exponents)
+    Ok(eliminate(alloc, gf, lost, &rising, 0)?.system.rank())
 }
 
 /// The rank of the exponents' equations for these lost slices, which is how many exponents are kept. It equals the

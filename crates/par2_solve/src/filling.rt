@@ -13,7 +13,7 @@ ghost use Rattle.par2_solve.specs.BufferContents.{AreSums, buffers_of};
 ghost use Rattle.par2_transform.specs.Columns.{words_at};
 
 use crate::exponents::{Exponents, Lost};
-use crate::holes::{Window, front, hole_inverse, locator};
+use crate::holes::{front, hole_inverse, locator};
 use crate::products::{Size, buffer_at, buffers_fit, fit_lists, products_of, source_at};
 use crate::recovery::blank;
 use crate::run_locator::run_locator;
@@ -35,16 +35,16 @@ pub(crate) enum Origin {
 
 /// The inverse for exponents with holes between them, as factors that are applied one after the other.
 #[derive(Drop)]
-pub(crate) struct Filling<'a> {
+pub(crate) struct Filling {
     /// The right-hand sides of the holes' equations, as sums of the window's syndromes, the last number first. The
     /// sequence has the locator's coefficients, the highest first.
-    pub(crate) equations: Numerators<'a>,
+    pub(crate) equations: Numerators,
     /// The inverse of the matrix of the holes' coefficients in these equations.
     pub(crate) holes: Vec<Vec<u16>>,
     /// The origins of the syndromes of the window, in order.
     pub(crate) origins: Vec<Origin>,
     /// The locator of the lost slices for the run.
-    pub(crate) locator: Locator<'a>,
+    pub(crate) locator: Locator,
 }
 
 // The coefficient of `z ^ i`, which is 0 past the end.
@@ -66,37 +66,39 @@ fn falling(alloc: Global, p: &[u16], count: usize) -> Result<Vec<u16>>
 
 // The index, among all holes of the window, of the hole at place `x`, which is `x` above the first exponent. `places`
 // are those of all holes.
-fn hole_at(window: &Window, places: &[u32], x: u32) -> usize
-    requires places { places.now ≡ holes window.now.exponents.now }
+fn hole_at(exponents: &Exponents, places: &[u32], x: u32) -> usize
+    requires places { places.now ≡ holes exponents.now.numbers.now }
     requires hole { Contains places.now x }
-    ensures { IsOriginAt window.now.exponents.now x (Origin.Hole result) }
+    ensures { IsOriginAt exponents.now.numbers.now x (Origin.Hole result) }
 {
     places.binary_search(&x).unwrap()
 }
 
 // The origin of the syndrome of the number at place `x`, which is `x` above the first exponent: the exponent with this
 // number, or else a hole. `places` are those of all holes.
-fn origin_at(window: &Window, places: &[u32], x: u32) -> Origin
-    requires within { x ≤ span window.now.exponents.now }
-    requires places { places.now ≡ holes window.now.exponents.now }
-    ensures { IsOriginAt window.now.exponents.now x result }
+fn origin_at(exponents: &Exponents, places: &[u32], x: u32) -> Origin
+    requires some { 0 < length exponents.now.numbers.now }
+    requires within { x ≤ span exponents.now.numbers.now }
+    requires places { places.now ≡ holes exponents.now.numbers.now }
+    ensures { IsOriginAt exponents.now.numbers.now x result }
 {
-    let exponents = window.exponents;
-    match exponents.binary_search(&(exponents[0] + x)) {
+    let numbers = exponents.numbers;
+    match numbers.binary_search(&(numbers[0] + x)) {
         Ok(j) => Origin::Exponent(j),
-        Err(_) => Origin::Hole(hole_at(window, places, x)),
+        Err(_) => Origin::Hole(hole_at(exponents, places, x)),
     }
 }
 
 // The origins of the syndromes of the window, in order. `places` are those of all holes.
-fn origins(alloc: Global, window: &Window, places: &[u32]) -> Result<Vec<Origin>>
-    requires { places.now ≡ holes window.now.exponents.now }
+fn origins(alloc: Global, exponents: &Exponents, places: &[u32]) -> Result<Vec<Origin>>
+    requires some { 0 < length exponents.now.numbers.now }
+    requires places { places.now ≡ holes exponents.now.numbers.now }
     ensures { IfOk result (λ origins. AreOrigins
-        window.now.exponents.now (span window.now.exponents.now + 1) origins.items) }
+        exponents.now.numbers.now (span exponents.now.numbers.now + 1) origins.items) }
 {
-    let mut origins = Vec::with_capacity(alloc, window.exponents.len() + places.len())?;
-    for x in 0..=window.span() {
-        origins.push(origin_at(window, places, x))?;
+    let mut origins = Vec::with_capacity(alloc, exponents.numbers.len() + places.len())?;
+    for x in 0..=exponents.span() {
+        origins.push(origin_at(exponents, places, x))?;
     }
     Ok(origins)
 }
@@ -115,12 +117,12 @@ fn has_points(holes: usize, lost: usize) -> bool
 /// The inverse for the first exponents, as many as slices are lost. None if there are too many holes between them or
 /// the equations of the holes are dependent. With at most as many holes as lost slices (`front`), it takes no more
 /// products than elimination.
-pub(crate) fn inverse_over_holes<'a>(
+pub(crate) fn inverse_over_holes(
     alloc: Global,
-    gf: &'a Gf,
+    gf: &Gf,
     lost: &Lost,
     exponents: &Exponents,
-) -> Result<Option<Inverse<'a>>>
+) -> Result<Option<Inverse>>
     ensures { IfOk result (λ found.
         IfSome found (InvertsFirst lost.now.numbers.now exponents.now.numbers.now)) }
 {
@@ -136,12 +138,12 @@ pub(crate) fn inverse_over_holes<'a>(
     let Some(inverse) = hole_inverse(alloc, gf, &p, &places, count)? else {
         return Ok(None);
     };
-    let window = first.exponents.len() + count;
+    let window = first.numbers.len() + count;
     let filling = Filling {
         equations: Numerators::new(alloc, gf, falling(alloc, &p, window)?, count)?,
         holes: inverse,
         origins: origins(alloc, &first, &places)?,
-        locator: run_locator(alloc, gf, lost, first.exponents[0])?,
+        locator: run_locator(alloc, gf, lost, first.numbers[0])?,
     };
     Ok(Some(Inverse::Filled(filling)))
 }
@@ -158,7 +160,7 @@ fn source_of<'a, 'b: 'a>(origin: Origin, sources: &[&'b [u8]], holes: &'a [Vec<u
     }
 }
 
-impl<'a> Filling<'a> {
+impl Filling {
     // The syndromes of the window, the last number first. Those of the holes are empty.
     fn window<'b>(&self, alloc: Global, sources: &[&'b [u8]]) -> Result<Vec<&'b [u8]>>
         ensures { IfOk result (λ window. buffers_of window.items

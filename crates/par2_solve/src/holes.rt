@@ -7,7 +7,6 @@
 //! determine those of the holes, the window becomes a run, and the exponents determine the lost slices.
 
 ghost use Rattle.std.specs.Prelude.{◌≡◌, ℕ, ◌+◌, ◌*◌, ◌<◌, ◌≤◌, length, slice_index, take, IfOk, IfSome, IsTrue};
-ghost use Rattle.std.specs.List.Sorted.{IsStrictlyIncreasing};
 ghost use Rattle.par2_spec.specs.Rank.{IsRepairable};
 ghost use Rattle.par2_spec.specs.Sums.{lists_of};
 ghost use Rattle.par2_solve.specs.Inverses.{AreHoleEquations, AreHoleInverse, holes, is_hole, locator, shifted, shifted_at, span};
@@ -20,21 +19,13 @@ use par2_matrix::{Offer, System};
 use par2_spec::Result;
 use std::alloc::Global;
 
-/// Exponents in increasing order, at least one. The numbers from the first one to the last are their window.
-#[derive(Clone, Copy)]
-pub(crate) struct Window<'a> {
-    pub(crate) exponents: &'a [u32],
-    ghost some: { 0 < length exponents.now },
-    ghost rise: { IsStrictlyIncreasing exponents.now },
-}
-
 /// The first `count` exponents, if there are at most as many holes between them. With more holes, their equations would
 /// outnumber those of the exponents, and elimination would be as fast.
-pub(crate) fn front<'a>(exponents: &Exponents<'a>, count: usize) -> Option<Window<'a>>
+pub(crate) fn front<'a>(exponents: &Exponents<'a>, count: usize) -> Option<Exponents<'a>>
     // It returns the first `count` exponents, and at most `count` numbers are missing between them.
-    ensures first { IfSome result (λ first. first.exponents.now ≡ take count exponents.now.numbers.now) }
-    ensures count { IfSome result (λ first. length first.exponents.now ≡ count) }
-    ensures near { IfSome result (λ first. span first.exponents.now < 2 * count) }
+    ensures first { IfSome result (λ first. first.numbers.now ≡ take count exponents.now.numbers.now) }
+    ensures count { IfSome result (λ first. length first.numbers.now ≡ count) }
+    ensures near { IfSome result (λ first. span first.numbers.now < 2 * count) }
 {
     if count == 0 {
         return None;
@@ -43,35 +34,19 @@ pub(crate) fn front<'a>(exponents: &Exponents<'a>, count: usize) -> Option<Windo
     if !first.are_close(count.saturating_mul(2)) {
         return None;
     }
-    let exponents = first.numbers;
-    Some(Window { exponents })
+    Some(first)
 }
 
-impl<'a> Window<'a> {
-    /// The difference between the last exponent and the first: the place of the last one in the window.
-    pub(crate) fn span(&self) -> u32
-        ensures { result ≡ span self.now.exponents.now }
-    {
-        self.exponents[self.exponents.len() - 1] - self.exponents[0]
-    }
-
-    // Whether no exponent is at this place of the window. The first one is at place 0.
-    fn is_hole(&self, x: u32) -> bool
-        requires { x ≤ span self.now.exponents.now }
-        ensures { result ≡ is_hole self.now.exponents.now x }
-    {
-        let exponents = self.exponents;
-        exponents.binary_search(&(exponents[0] + x)).is_err()
-    }
-
+impl<'a> Exponents<'a> {
     /// The places of the holes between the exponents, in increasing order: for each hole, how far it is above the first
     /// exponent.
     pub(crate) fn holes(&self, alloc: Global) -> Result<Vec<u32>>
-        ensures { IfOk result (λ places. places.items ≡ holes self.now.exponents.now) }
+        ensures { IfOk result (λ places. places.items ≡ holes self.now.numbers.now) }
     {
+        let numbers = self.numbers;
         let mut places = Vec::new(alloc);
         for x in 0..self.span() {
-            if self.is_hole(x) {
+            if !self.contains(numbers[0] + x) {
                 places.push(x)?;
             }
         }
@@ -80,10 +55,9 @@ impl<'a> Window<'a> {
 
     /// The number of equations of the holes in the window, which is the number of holes.
     pub(crate) fn count_equations(&self) -> usize
-        ensures { result + length self.now.exponents.now ≡ span self.now.exponents.now + 1 }
+        ensures { result + length self.now.numbers.now ≡ span self.now.numbers.now + 1 }
     {
-        let numbers = self.span() as usize + 1;
-        numbers - self.exponents.len()
+        self.span() as usize + 1 - self.numbers.len()
     }
 }
 

@@ -3,13 +3,11 @@
 //! equations of all exponents to a system in order, with unit vectors on the right-hand side, whose solution is the
 //! inverse.
 
-ghost use Rattle.std.specs.Prelude.{◌≡◌, ℕ, ◌*◌, ◌<◌, ◌≤◌, length, map, IfErr, IfOk, IsOk, ◌%◌, IfSome, IsNone};
-ghost use Rattle.std.specs.List.Sorted.{IsStrictlyIncreasing};
+ghost use Rattle.std.specs.Prelude.{◌≡◌, ℕ, ◌*◌, ◌<◌, ◌≤◌, length, IfErr, IfOk, IsOk, ◌%◌, IfSome, IsNone};
 ghost use Rattle.par2_spec.specs.Rank.{IsRepairable};
 ghost use Rattle.par2_spec.specs.Sums.{lists_of, list_at};
 ghost use Rattle.par2_solve.specs.Inverses.{AreByteRows, BeginsWithRun, HasInverse, InvertsFirst, IsEliminated, IsUnit, KeepsThose};
-ghost use Rattle.par2_solve.specs.BufferContents.{buffers_of};
-ghost use Rattle.par2_solve.specs.Rebuilding.{IsTrueFault, exponents_of, recovered_of};
+ghost use Rattle.par2_solve.specs.Rebuilding.{IsTrueFault};
 ghost use Rattle.par2_matrix.specs.Echelon.{HoldsRow};
 
 use crate::exponents::{Exponents, Lost, coefficients};
@@ -23,48 +21,46 @@ use par2_matrix::{Offer, System, element, put_element};
 use par2_spec::Result;
 use std::alloc::Global;
 
-/// The recovery slices of the kept exponents in order, and the system of their equations. The right-hand side of
-/// equation `j` is unit vector `j`, if there are that many units.
+/// The kept exponents in order, and the system of their equations. The right-hand side of equation `j` is unit vector
+/// `j`, if there are that many units.
 #[derive(Drop)]
-pub(crate) struct Elimination<'a> {
-    pub(crate) kept: Vec<(u32, &'a [u8])>,
+pub(crate) struct Elimination {
+    pub(crate) kept: Vec<u32>,
     pub(crate) system: System,
 }
 
-/// The recovery slices of the kept exponents in order, and the inverse of the matrix of their coefficients for the lost
-/// slices.
+/// The kept exponents in order, and the inverse of the matrix of their coefficients for the lost slices.
 #[derive(Drop)]
-pub(crate) struct Inversion<'a> {
-    pub(crate) kept: Vec<(u32, &'a [u8])>,
-    pub(crate) inverse: Inverse<'a>,
+pub(crate) struct Inversion {
+    pub(crate) kept: Vec<u32>,
+    pub(crate) inverse: Inverse,
 }
 
-/// Offers the equations of the recovery slices for the `lost` slices in order, and collects the recovery slices whose
-/// equations are kept. A right-hand side is the unit vector, of `units` elements, of the equation's number among the
-/// kept ones, so that the solution of the system is the inverse. At full rank no row is computed.
-pub(crate) fn eliminate<'a>(
+/// Offers the equations of the exponents for the `lost` slices in order, and collects the exponents whose equations are
+/// kept. A right-hand side is the unit vector, of `units` elements, of the equation's number among the kept ones, so
+/// that the solution of the system is the inverse. At full rank no row is computed.
+pub(crate) fn eliminate(
     alloc: Global,
     gf: &Gf,
     lost: &[u32],
-    recovery: &[(u32, &'a [u8])],
+    exponents: &Exponents,
     units: usize,
-) -> Result<Elimination<'a>>
-    requires rise { IsStrictlyIncreasing (exponents_of recovery.now) }
-    requires units { units < 65536 }
-    ensures { IfOk result (λ found. IsEliminated lost.now units
-        (recovered_of recovery.now) (recovered_of found.kept.items) found.system) }
+) -> Result<Elimination>
+    requires { units < 65536 }
+    ensures { IfOk result (λ found.
+        IsEliminated lost.now units exponents.now.numbers.now found.kept.items found.system) }
 {
     let mut system = System::new(alloc, lost.len(), 2 * units)?;
     let mut kept = Vec::new(alloc);
-    for i in 0..recovery.len() {
-        let slice = recovery[i];
+    for i in 0..exponents.numbers.len() {
+        let e = exponents.numbers[i];
         if system.rank() == lost.len() {
             continue;
         }
-        let row = coefficients(alloc, gf, lost, slice.0)?;
+        let row = coefficients(alloc, gf, lost, e)?;
         let right = unit(alloc, units, system.rank())?;
         match system.offer(gf, &row, right)? {
-            Offer::Kept => kept.push(slice)?,
+            Offer::Kept => kept.push(e)?,
             Offer::Dependent => {}
         }
     }
@@ -73,54 +69,30 @@ pub(crate) fn eliminate<'a>(
 
 // The kept exponents and their inverse by elimination of all equations. `invert` calls it if the first exponents give
 // no inverse. An error is that the exponents don't determine the lost slices, or that memory ran out.
-fn invert_by_elimination<'a>(
+fn invert_by_elimination(
     alloc: Global,
     gf: &Gf,
     lost: &Lost,
-    recovery: &[(u32, &'a [u8])],
-) -> Result<Inversion<'a>, RebuildFault>
-    requires { IsStrictlyIncreasing (exponents_of recovery.now) }
+    exponents: &Exponents,
+) -> Result<Inversion, RebuildFault>
     // The first exponents whose equations are independent are kept, and the inverse is theirs.
-    ensures kept { IfOk result (KeepsThose lost.now.numbers.now recovery.now) }
+    ensures kept { IfOk result (KeepsThose lost.now.numbers.now exponents.now.numbers.now) }
     ensures inverse { IfOk result (HasInverse lost.now.numbers.now) }
     // It succeeds only if the lost slices are determined; otherwise the fault says so with the true
     // rank.
-    ensures enough { IsOk result → IsRepairable lost.now.numbers.now (exponents_of recovery.now) }
-    ensures refused { IfErr result (IsTrueFault lost.now.numbers.now (exponents_of recovery.now)) }
+    ensures enough { IsOk result → IsRepairable lost.now.numbers.now exponents.now.numbers.now }
+    ensures refused { IfErr result (IsTrueFault lost.now.numbers.now exponents.now.numbers.now) }
 {
-    let Elimination { kept, system } = eliminate(
-        alloc,
-        gf,
-        lost.numbers,
-        recovery,
-        lost.numbers.len(),
-    )?;
+    let missing = lost.numbers.len();
+    let Elimination { kept, system } = eliminate(alloc, gf, lost.numbers, exponents, missing)?;
     let rank = system.rank();
     match system.into_solution() {
         Ok(buffers) => Ok(Inversion {
             kept,
             inverse: Inverse::Rows(rows_of(alloc, &buffers)?),
         }),
-        Err(_) => Err(RebuildFault::NotRepairable {
-            missing: lost.numbers.len(),
-            rank,
-        }),
+        Err(_) => Err(RebuildFault::NotRepairable { missing, rank }),
     }
-}
-
-/// The bytes of the kept recovery slices, in order.
-pub(crate) fn bytes_of<'a>(alloc: Global, kept: &[(u32, &'a [u8])]) -> Result<Vec<&'a [u8]>>
-    ensures { IfOk result
-        (λ buffers. buffers_of buffers.items ≡ map (λ r. r.1) (recovered_of kept.now)) }
-{
-    kept.iter().map(|slice| slice.1).collect(alloc)
-}
-
-/// The exponents of the recovery slices, in order.
-pub(crate) fn exponents_of(alloc: Global, kept: &[(u32, &[u8])]) -> Result<Vec<u32>>
-    ensures { IfOk result (λ exponents. exponents.items ≡ exponents_of kept.now) }
-{
-    kept.iter().map(|slice| slice.0).collect(alloc)
 }
 
 // The elements of a right-hand side, two bytes each. After elimination they are a row of the inverse.
@@ -181,12 +153,12 @@ fn run_at_front(exponents: &Exponents, count: usize) -> Option<u32>
 // The inverse for the first exponents, as many as slices are lost, if they are a run or have holes whose equations are
 // independent. None if `invert` must eliminate; if few slices are lost, elimination takes less time than the products
 // of slices that holes need.
-fn inverse_at_front<'a>(
+fn inverse_at_front(
     alloc: Global,
-    gf: &'a Gf,
+    gf: &Gf,
     lost: &Lost,
     exponents: &Exponents,
-) -> Result<Option<Inverse<'a>>>
+) -> Result<Option<Inverse>>
     ensures { IfOk result (λ found.
         IfSome found (InvertsFirst lost.now.numbers.now exponents.now.numbers.now)) }
 {
@@ -202,26 +174,23 @@ fn inverse_at_front<'a>(
 /// The kept exponents and their inverse; `NotRepairable` if the exponents don't determine the lost slices. If the first
 /// exponents, as many as slices are lost, are a run or have few holes between them, they are the kept ones and the
 /// error locator gives the inverse. Otherwise elimination does.
-pub(crate) fn invert<'a>(
+pub(crate) fn invert(
     alloc: Global,
-    gf: &'a Gf,
+    gf: &Gf,
     lost: &Lost,
-    recovery: &[(u32, &'a [u8])],
-) -> Result<Inversion<'a>, RebuildFault>
-    requires { IsStrictlyIncreasing (exponents_of recovery.now) }
+    exponents: &Exponents,
+) -> Result<Inversion, RebuildFault>
     // The first exponents whose equations are independent are kept, and the inverse is theirs.
-    ensures kept { IfOk result (KeepsThose lost.now.numbers.now recovery.now) }
+    ensures kept { IfOk result (KeepsThose lost.now.numbers.now exponents.now.numbers.now) }
     ensures inverse { IfOk result (HasInverse lost.now.numbers.now) }
     // It succeeds only if the lost slices are determined; otherwise the fault says so with the true
     // rank.
-    ensures enough { IsOk result → IsRepairable lost.now.numbers.now (exponents_of recovery.now) }
-    ensures refused { IfErr result (IsTrueFault lost.now.numbers.now (exponents_of recovery.now)) }
+    ensures enough { IsOk result → IsRepairable lost.now.numbers.now exponents.now.numbers.now }
+    ensures refused { IfErr result (IsTrueFault lost.now.numbers.now exponents.now.numbers.now) }
 {
-    let numbers = exponents_of(alloc, recovery)?;
-    let exponents = Exponents { numbers: &numbers };
-    let Some(inverse) = inverse_at_front(alloc, gf, lost, &exponents)? else {
-        return invert_by_elimination(alloc, gf, lost, recovery);
+    let Some(inverse) = inverse_at_front(alloc, gf, lost, exponents)? else {
+        return invert_by_elimination(alloc, gf, lost, exponents);
     };
-    let kept = Vec::from_slice(alloc, &recovery[..lost.numbers.len()])?;
+    let kept = Vec::from_slice(alloc, &exponents.numbers[..lost.numbers.len()])?;
     Ok(Inversion { kept, inverse })
 }

@@ -177,9 +177,9 @@ pub(crate) fn fit_lists(buffers: &[Vec<u8>])
     }
 }
 
-// For the prover: each byte is less than 256.
+/// For the prover: each byte is less than 256.
 #[inline(always)]
-fn fit_bytes(bytes: &[u8])
+pub(crate) fn fit_bytes(bytes: &[u8])
     ensures { (k : ℕ) → slice_index bytes.now k < 2 ^ 8 }
 {
     let _ = bytes.len();

@@ -4,13 +4,13 @@
 ghost use Rattle.std.specs.Prelude.{◌≡◌, ◌≤◌, length, map, IfOk, IfErr, IsOk};
 ghost use Rattle.par2_spec.specs.Search.{lost};
 ghost use Rattle.par2_solve.specs.Inverses.{HasInverse, KeepsThose};
-ghost use Rattle.par2_solve.specs.Rebuilding.{AnotherAlwaysAgrees, AreEnough, CanRebuild, IsFaultOf, IsNotRepairable, Rebuild, TwoAlwaysAgree, bytes_or_none, exponents_of, lost_among, lost_from};
-ghost use Rattle.par2_solve.specs.BufferContents.{buffers_of};
+ghost use Rattle.par2_solve.specs.Rebuilding.{AnotherAlwaysAgrees, AreEnough, CanRebuild, IsFaultOf, IsNotRepairable, Rebuild, TwoAlwaysAgree, bytes_or_none, exponents_of, lost_among, lost_from, recovered_of, with_exponents};
+ghost use Rattle.par2_solve.specs.BufferContents.{AreByteLists, buffers_of};
 
 use crate::encoder::{Encoder, Recovered};
-use crate::exponents::Lost;
-use crate::inverse::{Inversion, bytes_of, exponents_of, invert};
-use crate::products::{Size, buffers_fit, fit_lists};
+use crate::exponents::{Exponents, Lost};
+use crate::inverse::{Inversion, invert};
+use crate::products::{Size, buffers_fit, fit_bytes, fit_lists};
 use crate::room::rows_room;
 use crate::syndromes::solved;
 use par2_gf16::Gf;
@@ -75,26 +75,64 @@ fn slices_or_none<'a>(alloc: Global, known: &[Option<&'a [u8]>]) -> Result<Vec<&
     slices.collect(alloc)
 }
 
-// The lost slices, one buffer for each: the inverse times the syndromes of the kept exponents.
-fn solve(alloc: Global, gf: &Gf, survivors: &Survivors, found: &Inversion) -> Result<Vec<Vec<u8>>>
+// The exponents of the recovery slices, in order.
+fn exponents_of(alloc: Global, recovery: &[(u32, &[u8])]) -> Result<Vec<u32>>
+    ensures { IfOk result (λ exponents. exponents.items ≡ exponents_of recovery.now) }
+{
+    recovery.iter().map(|slice| slice.0).collect(alloc)
+}
+
+// The bytes of the recovery slices of the kept exponents, in order.
+fn bytes_of<'a>(
+    alloc: Global,
+    recovery: &[(u32, &'a [u8])],
+    kept: &Exponents,
+) -> Result<Vec<&'a [u8]>>
+    ensures { IfOk result (λ bytes.
+        buffers_of bytes.items ≡ map (λ r. r.1) (with_exponents kept.now.numbers.now recovery.now)) }
+{
+    let slices = recovery.iter().filter(|slice| kept.contains(slice.0));
+    slices.map(|slice| slice.1).collect(alloc)
+}
+
+// For the prover: each byte of the recovery slices is less than 256.
+fn fit_recovery(recovery: &[(u32, &[u8])])
+    ensures { AreByteLists (map (λ r. r.1) (recovered_of recovery.now)) }
+{
+    for i in 0..recovery.len() {
+        fit_bytes(recovery[i].1);
+    }
+}
+
+// The lost slices, one buffer for each: the inverse times the syndromes of the kept exponents. `slices` are the bytes
+// of each input slice, none for a lost one.
+fn solve(
+    alloc: Global,
+    gf: &Gf,
+    survivors: &Survivors,
+    slices: &[&[u8]],
+    found: &Inversion,
+) -> Result<Vec<Vec<u8>>>
     // The recovery slices determine the lost ones, and `found` has the kept exponents and their
     // inverse.
     requires survivors { CanRebuild survivors.now }
+    requires slices { buffers_of slices.now ≡ map bytes_or_none survivors.now.known.items }
     requires enough { AreEnough survivors.now }
-    requires kept { KeepsThose (lost_among survivors.now) survivors.now.recovery.items found.now }
+    requires kept { KeepsThose
+        (lost_among survivors.now) (exponents_of survivors.now.recovery.items) found.now }
     requires inverse { HasInverse (lost_among survivors.now) found.now }
     // It returns the lost slices, one buffer for each.
     ensures rebuilt { IfOk result (λ buffers. Rebuild survivors.now buffers.items) }
     ensures count { IfOk result (λ it. length it.items ≡ length (lost_among survivors.now)) }
 {
-    let exponents = exponents_of(alloc, &found.kept)?;
-    let recovery = bytes_of(alloc, &found.kept)?;
-    let slices = slices_or_none(alloc, &survivors.known)?;
-    let slices = slices.as_slice();
+    let exponents = Exponents {
+        numbers: &found.kept,
+    };
+    let recovery = bytes_of(alloc, &survivors.recovery, &exponents)?;
     let room = rows_room(slices, recovery.len());
     let encoder = Encoder { gf, slices, room };
     let kept = Recovered {
-        exponents: &exponents,
+        exponents: exponents.numbers,
         slices: &recovery,
     };
     let bytes = survivors.slice;
@@ -123,13 +161,18 @@ pub fn rebuild(alloc: Global, gf: &Gf, survivors: &Survivors) -> Result<Vec<Vec<
 {
     another_list_agrees();
     two_lists_agree();
+    let slices = slices_or_none(alloc, &survivors.known)?;
     // For the prover: what the laws say of lists of slices holds of bytes.
-    buffers_fit(&slices_or_none(alloc, &survivors.known)?);
-    buffers_fit(&bytes_of(alloc, &survivors.recovery)?);
+    buffers_fit(&slices);
+    fit_recovery(&survivors.recovery);
     let lost = lost_numbers(alloc, &survivors.known)?;
+    let exponents = exponents_of(alloc, &survivors.recovery)?;
     let lost = Lost { numbers: &lost };
-    let found = invert(alloc, gf, &lost, &survivors.recovery)?;
-    Ok(solve(alloc, gf, survivors, &found)?)
+    let exponents = Exponents {
+        numbers: &exponents,
+    };
+    let found = invert(alloc, gf, &lost, &exponents)?;
+    Ok(solve(alloc, gf, survivors, &slices, &found)?)
 }
 
 /// The same as `rebuild`, with tables of the field that it makes itself.

@@ -45,12 +45,7 @@ fn after_first(alloc: Global, p: &[u16]) -> Result<Vec<u16>>
 
 /// The locator for the exponents from `first` on, as many as slices are lost. `Inverts`: the rows that it represents
 /// are the inverse of the matrix of these exponents.
-pub(crate) fn run_locator<'a>(
-    alloc: Global,
-    gf: &'a Gf,
-    lost: &Lost,
-    first: u32,
-) -> Result<Locator<'a>>
+pub(crate) fn run_locator(alloc: Global, gf: &Gf, lost: &Lost, first: u32) -> Result<Locator>
     ensures { IfOk result (λ locator. Inverts lost.now.numbers.now
         (range_with_len first (length lost.now.numbers.now)) (Inverse.Located locator)) }
 {
@@ -66,12 +61,7 @@ pub(crate) fn run_locator<'a>(
 /// The inverse for the exponents from `first` on, as many as slices are lost: its rows if these are few, otherwise the
 /// locator.
 #[tactic(auto, using(crate::proofs::Finishing::rows_take))]
-pub(crate) fn inverse_for_run<'a>(
-    alloc: Global,
-    gf: &'a Gf,
-    lost: &Lost,
-    first: u32,
-) -> Result<Inverse<'a>>
+pub(crate) fn inverse_for_run(alloc: Global, gf: &Gf, lost: &Lost, first: u32) -> Result<Inverse>
     ensures { IfOk result (λ inverse. Inverts lost.now.numbers.now
         (range_with_len first (length lost.now.numbers.now)) inverse) }
 {

@@ -21,12 +21,12 @@ const LEAST: usize = 4096;
 
 /// The inverse of the matrix of the kept exponents: its rows, or a form by which it is applied without computing them.
 #[derive(Drop)]
-pub(crate) enum Inverse<'a> {
+pub(crate) enum Inverse {
     Rows(Vec<Vec<u16>>),
     /// For a run of exponents, the error locator.
-    Located(Locator<'a>),
+    Located(Locator),
     /// For exponents with holes between them, what computes the holes' syndromes, and the locator.
-    Filled(Filling<'a>),
+    Filled(Filling),
 }
 
 /// The product of the inverse that a locator represents and the sources, which are the syndromes of its run: for each
@@ -47,7 +47,7 @@ pub(crate) fn located_products(
     Ok(sums)
 }
 
-impl<'a> Inverse<'a> {
+impl Inverse {
     /// The number of rows, which is that of the lost slices.
     pub(crate) fn len(&self) -> usize
         ensures { (lost exponents : List ℕ) → Inverts lost exponents self.now → result ≡ length lost }

@@ -78,7 +78,7 @@ impl<'a> Encoder<'a> {
         let transform = Transform { gf, slices, room };
         transform.add_recovery_slices(alloc, to, first, all.as_mut_slice())?;
         let sums = picked(alloc, &all, targets.exponents, first)?;
-        add_sums(gf, &sums, ColumnRange { from: 0, to }, buffers, outputs);
+        add_sums(&sums, ColumnRange { from: 0, to }, buffers, outputs);
         Ok(())
     }
 }

@@ -9,7 +9,7 @@ use Rattle.par2_solve.proofs.filling.inverse_over_holes.Goals as goal
 
 pub new-requires : goal.new-requires
 new-requires c =
-    let es = c.in-Some.first.exponents.now in
+    let es = c.in-Some.first.numbers.now in
     let n = c.count_equations-count.result in
     let long : length c.in_ok-falling.field-0.items ≡ length es + n = ap (λ (xs : List ℕ). length xs) c.in_ok-falling.ensures ∙ falling_long c.deref-3.result.now (length es + n) in
     let few : length c.args.lost.now.numbers.now + n + n ≤ 65536 = search rules in
@@ -18,7 +18,7 @@ new-requires c =
 pub returns : goal.returns
 returns c =
     let ks = c.args.lost.now.numbers.now in
-    let es = c.in-Some.first.exponents.now in
+    let es = c.in-Some.first.numbers.now in
     let n = c.count_equations-count.result in
     let fit : n + length es ≡ span es + 1 = c.count_equations-count.ensures in
     let p : c.deref-3.result.now ≡ locator ks = c.deref-3.ensures.value ∙ c.in_ok-p.ensures in
@@ -37,5 +37,5 @@ returns c =
         origins = c.in_ok-origins.ensures;
         run = c.in_ok-run_locator.ensures;
       });
-      enough = subst (IsRepairable ks) c.in-Some.ensures.first (holes_determine ks es n (slices_of c.args.lost.now) c.in-Some.first.rise c.in-Some.first.some (let count = c.in-Some.ensures.count in omega (arith, fit, count)) inverse.only);
+      enough = subst (IsRepairable ks) c.in-Some.ensures.first (holes_determine ks es n (slices_of c.args.lost.now) c.in-Some.first.rise (omega (arith, c.in-Some.ensures.count, c.in-Some.ensures.near)) (let count = c.in-Some.ensures.count in omega (arith, fit, count)) inverse.only);
     }

@@ -1,6 +1,5 @@
-use Rattle.par2_solve.proofs.Common.{recovered_of}
 use Rattle.par2_solve.proofs.Standing.{Standing}
 use Rattle.par2_solve.proofs.inverse.eliminate.Given as goal
 
 abbrev pub invariant-loop-i : goal.invariant-loop-i
-invariant-loop-i l = Standing l.lost l.units (recovered_of l.recovery) (recovered_of l.kept.items) l.i l.system
+invariant-loop-i l = Standing l.lost l.units l.exponents.numbers.now l.kept.items l.i l.system
