@@ -1,7 +1,7 @@
 -- Entries that can be those of a session.
 use Rattle.par2_journal.proofs.Common.{◌≡◌, ℕ, ◌≤◌, List, [], ◌∷◌, length, take, drop, arith, reverse, sum_by, Change, places_taken}
 use Rattle.std.proofs.lemmas.List.Sums.{sum_by-take-drop, sum_by-cons}
-use Rattle.par2_journal_format.specs.Untested.{change_count}
+use Rattle.par2_journal_format.specs.Reading.{change_count}
 use Rattle.par2_journal.proofs.Readiness.{places_within}
 use Rattle.std.proofs.lemmas.List.Sorted.{sum_by-IsPermutation, IsPermutation-reverse}
 

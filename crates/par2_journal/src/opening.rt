@@ -6,8 +6,7 @@ ghost use Rattle.md5.specs.Md5.{md5};
 ghost use Rattle.par2_spec.specs.Changes.{are_applicable};
 ghost use Rattle.par2_spec.specs.Opening.{Opens, is_valid, leads, opened_by_part};
 ghost use Rattle.par2_spec.specs.declared.JournalFault.TheVariants.{JournalInvalid, FolderChanged, Memory};
-ghost use Rattle.par2_journal_format.specs.Reading.{IsSealed};
-ghost use Rattle.par2_journal_format.specs.Untested.{AreCounted, change_count};
+ghost use Rattle.par2_journal_format.specs.Reading.{IsSealed, AreCounted, change_count};
 ghost use Rattle.par2_journal_format.specs.JournalViews.{changes_in, journal_of};
 ghost use Rattle.par2_journal.specs.Opening.{AnswersOpening, AnswersTest, AnswersWhere, IsReportedWhere, OpensAsIs, has_print, session_at};
 ghost use Rattle.par2_journal.specs.Walks.{EntriesWalk};
@@ -40,7 +39,7 @@ impl<'a> Names<'a> {
     ghost use Rattle.par2_journal.specs.Walks.{AreNamesOf, IsSet, IsTried, names_in};
 
     // The names before any change.
-    fn of(alloc: Global, folder: &'a Folder) -> Names<'a>
+    pub(crate) fn of(alloc: Global, folder: &'a Folder) -> Names<'a>
         ensures { AreNamesOf folder.now.files (names_in result) }
     {
         let touched = BTreeMap::new(alloc);
@@ -98,7 +97,7 @@ impl<'a> Names<'a> {
 
     // Records the changes in order, up to the first that can't be made. Returns whether all could be. `IsTried`: the
     // result is right, and if it is true, the names are those after all changes.
-    fn go_along(&mut self, changes: &'a [Change]) -> Result<bool>
+    pub(crate) fn go_along(&mut self, changes: &'a [Change]) -> Result<bool>
         ensures { let changes = changes_in changes.now in
             let new = names_in self.new in
             (files : Files) → AreNamesOf files (names_in self.old) →
@@ -112,13 +111,6 @@ impl<'a> Names<'a> {
         }
         Ok(true)
     }
-}
-
-// Whether the changes can be made in order. They are tried on the folder's names, and none is applied.
-pub(crate) fn can_apply(alloc: Global, folder: &Folder, changes: &[Change]) -> Result<bool>
-    ensures { IfOk result (λ x. x ≡ are_applicable folder.now.files (changes_in changes.now)) }
-{
-    Names::of(alloc, folder).go_along(changes)
 }
 
 // Whether the entries' changes can be made one after the other, each entry's on the folder that the one before it
@@ -246,10 +238,7 @@ fn test_digests(
         digest.now ≡ md5 body.now →
         IfErr result (λ e. (e ≡ Memory) ⊎ ((e ≡ FolderChanged false) × (same ≡ false))) }
 {
-    let found = match next {
-        None => session.fingerprint_with_checkpoints(body)?,
-        Some(next) => session.digests_ahead(next, body)?,
-    };
+    let found = session.digests_ahead(next, body)?;
     if digest != found.bytes.as_slice() {
         return Err(JournalFault::JournalInvalid);
     }

@@ -96,18 +96,6 @@ pub enum SessionFault {
     NothingToRedo,
 }
 
-impl From<Fault> for SessionFault {
-    ghost use Rattle.std.specs.Prelude.{◌≡◌};
-    ghost use Rattle.par2_journal.specs.declared.preparation.SessionFault.TheVariants.{Plan};
-
-    ghost from_gives = { λ fault refused. refused ≡ Plan fault };
-
-    // For `?` after a plan or a draft is refused.
-    fn from(fault: Fault) -> Self {
-        SessionFault::Plan(fault)
-    }
-}
-
 impl From<AllocError> for SessionFault {
     ghost use Rattle.std.specs.Prelude.{◌≡◌};
     ghost use Rattle.par2_spec.specs.declared.Fault.TheVariants.{Memory};

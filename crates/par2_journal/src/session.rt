@@ -80,12 +80,7 @@ impl Session {
         ensures undos { result.undos ≡ [] }
         ensures redos { result.redos ≡ [] }
     {
-        Session {
-            folder,
-            entries: Vec::new(alloc),
-            cursor: 0,
-            ahead: Ahead::none(alloc),
-        }
+        Session::from_entries(folder, Vec::new(alloc), 0)
     }
 
     // A session with these entries from a journal that was tried: the first `cursor` are undos, the oldest first, and
@@ -94,7 +89,8 @@ impl Session {
     pub(crate) fn from_entries(folder: Folder, entries: Vec<Changes>, cursor: usize) -> Session
         requires within { cursor ≤ length entries.items }
         requires walks { EntriesWalk folder cursor entries.items }
-        ensures { session_of_kept result ≡ session_at folder.files cursor entries.items }
+        ensures folder { result.folder ≡ folder }
+        ensures session { session_of_kept result ≡ session_at folder.files cursor entries.items }
     {
         let ahead = Ahead::none(*entries.allocator());
         Session {
@@ -265,27 +261,24 @@ impl Session {
         &self.ahead.checkpoints
     }
 
-    // Digests the folder and `bytes`, the journal's body, side by side for an opening, and keeps checkpoints for the
-    // next action: MD5 states at names of the folder.
-    pub(crate) fn fingerprint_with_checkpoints(&mut self, bytes: &[u8]) -> Result<SessionDigests>
+    // Digests the folder and `bytes`, the journal's body, side by side for an opening. Before an undo or redo (`next`),
+    // the fingerprints along its changes are computed with them, which takes little longer, and kept for it. Otherwise
+    // checkpoints are kept for the next action: MD5 states at names of the folder.
+    pub(crate) fn digests_ahead(
+        &mut self,
+        next: Option<Next>,
+        bytes: &[u8],
+    ) -> Result<SessionDigests>
         ensures unchanged { self.new ≡ self.old }
         ensures folder { IfOk result (λ x. x.folder ≡ fingerprint self.old.folder.files) }
         ensures bytes { IfOk result (λ x. x.bytes ≡ md5 bytes.now) }
     {
-        let found = fingerprint_with_checkpoints(self.allocator(), &self.folder, bytes)?;
-        let (folder, bytes) = (found.fingerprint, found.digest);
-        self.ahead.checkpoints = found.checkpoints;
-        Ok(SessionDigests { folder, bytes })
-    }
-
-    // Digests the folder and `bytes`, the journal's body, for an opening before the undo or redo `next`. The
-    // fingerprints along its changes are computed side by side with them, which takes little longer, and are kept for
-    // it.
-    pub(crate) fn digests_ahead(&mut self, next: Next, bytes: &[u8]) -> Result<SessionDigests>
-        ensures unchanged { self.new ≡ self.old }
-        ensures folder { IfOk result (λ x. x.folder ≡ fingerprint self.old.folder.files) }
-        ensures bytes { IfOk result (λ x. x.bytes ≡ md5 bytes.now) }
-    {
+        let Some(next) = next else {
+            let found = fingerprint_with_checkpoints(self.allocator(), &self.folder, bytes)?;
+            let (folder, bytes) = (found.fingerprint, found.digest);
+            self.ahead.checkpoints = found.checkpoints;
+            return Ok(SessionDigests { folder, bytes });
+        };
         let found = self.digests(self.next_changes(next), None, &[bytes])?;
         let (folder, bytes) = (found.along[0], found.beside[0]);
         self.ahead.along = Some((next, found.along));

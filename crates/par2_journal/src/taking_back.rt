@@ -6,13 +6,13 @@ ghost use Rattle.std.specs.Str.{bytes_eq};
 ghost use Rattle.par2_spec.specs.Changes.{effects};
 ghost use Rattle.par2_spec.specs.Journals.{Spells};
 ghost use Rattle.par2_spec.specs.Opening.{is_valid, opened_by_part};
-ghost use Rattle.par2_journal_format.specs.Untested.{AreCounted};
+ghost use Rattle.par2_journal_format.specs.Reading.{AreCounted};
 ghost use Rattle.par2_journal_format.specs.JournalViews.{changes_in, halfway_of, journal_of};
 ghost use Rattle.par2_journal.specs.Opening.{AnswersTest, AnswersWhere, FailsTest, HasNoPlace, LeadBack, go_through, place_among, session_at, session_before, way_left};
 ghost use Rattle.par2_journal.specs.Ready.{kept_journal};
 ghost use Rattle.par2_journal.specs.Walks.{WentForth};
 
-use crate::opening::{Opened, Opening, can_apply, session_from};
+use crate::opening::{Names, Opened, Opening, session_from};
 use crate::{Changes, Session};
 use par2_files::{Change, Checkpoints, Folder, copies_of, fingerprints};
 use par2_journal_format::{HalfwayPart, Journal};
@@ -64,7 +64,7 @@ fn go_back(
     ensures files { OnErr result (folder.new.files ≡ folder.old.files) }
 {
     folder.reserve(way.len())?;
-    if !can_apply(alloc, folder, way)? {
+    if !Names::of(alloc, folder).go_along(way)? {
         return Err(JournalFault::JournalInvalid);
     }
     let found = fingerprints(alloc, folder, way, &Checkpoints::none(alloc), &[])?;

@@ -12,8 +12,8 @@ pub use Rattle.md5.specs.Md5.{md5}
 pub use Rattle.par2_files.specs.ChangeViews.{change_of}
 pub use Rattle.par2_journal_format.specs.Fronts.{Begins, Continues, with_halfway}
 unfoldable pub use Rattle.par2_journal_format.specs.Fronts.{front_bytes}
-pub use Rattle.par2_journal_format.specs.Reading.{Fails, IsSealed, cursor_in, some_where, ◌>>=◌}
-unfoldable pub use Rattle.par2_journal_format.specs.Reading.{behind_cursor_at, behind_length_at, block_at, change_at, cursor_at, entry_at, halfway_at, heading_at, many_at, name_at, number_at, parts_at}
+pub use Rattle.par2_journal_format.specs.Reading.{AreCounted, Fails, IsSealed, change_count, cursor_in, some_where, two_at, ◌>>=◌}
+unfoldable pub use Rattle.par2_journal_format.specs.Reading.{behind_length_at, block_at, change_at, cursor_at, entry_at, halfway_at, heading_at, many_at, name_at, number_at, parts_at}
 pub use Rattle.par2_journal_format.specs.JournalViews.{changes_in, halfway_from, journal_from, journal_of, part_from}
 pub use Rattle.par2_journal_format.specs.declared.fault.DecodeFault.{DecodeFault}
 pub use Rattle.par2_journal_format.specs.declared.fault.DecodeFault.TheVariants.{JournalInvalid, Memory}

@@ -1,5 +1,5 @@
 -- Names, changes, entries and the halfway part.
-use Rattle.par2_journal_format.proofs.Common.{◌≡◌, ℕ, zero, suc, ◌^◌, ◌≤◌, ◌<◌, Bool, leb, List, [], ◌∷◌, ◌++◌, length, Option, Some, None, refl, sym, ap, subst, ◌∙◌, append_assoc, flat_map, IsTrue, IfSome, w64, to_le_bytes, concat, leb-true, le-leb, same_Some, cond_some, Change, Write, Replace, Rename, Remove, HalfwayPart, IsFileBytes, IsDigest, IsChange, IsEntry, IsHalfwayPart, name_bytes, change_bytes, entry_bytes, halfway_bytes, AreBytes, ◌>>=◌, some_where, block_at, number_at, many_at, name_at, behind_length_at, change_at, entry_at, halfway_at}
+use Rattle.par2_journal_format.proofs.Common.{◌≡◌, ℕ, zero, suc, ◌^◌, ◌≤◌, ◌<◌, Bool, leb, List, [], ◌∷◌, ◌++◌, length, Option, Some, None, refl, sym, ap, subst, ◌∙◌, append_assoc, flat_map, IsTrue, IfSome, w64, to_le_bytes, concat, leb-true, le-leb, same_Some, cond_some, Change, Write, Replace, Rename, Remove, HalfwayPart, IsFileBytes, IsDigest, IsChange, IsEntry, IsHalfwayPart, name_bytes, change_bytes, entry_bytes, halfway_bytes, AreBytes, ◌>>=◌, some_where, block_at, number_at, many_at, name_at, behind_length_at, two_at, change_at, entry_at, halfway_at}
 use Rattle.std.proofs.lemmas.List.Concat.{concat_is}
 use Rattle.par2_spec.specs.Names.{is_name}
 use Rattle.par2_spec.specs.Folders.{behind_length}
@@ -46,9 +46,6 @@ counted_read : IsRead behind_length_at behind_length IsFileBytes
 counted_read = record { takes = counted_takes; again = counted_again }
 
 -- ---- two values that follow each other
-
-abbrev two_at : (one two : List ℕ → Option (List ℕ × List ℕ)) → (List ℕ → List ℕ → Change) → List ℕ → Option (Change × List ℕ)
-two_at one two make bytes = one bytes >>= λ a. two a.1 >>= λ b. Some (make a.0 b.0, b.1)
 
 two_take : (one two : List ℕ → Option (List ℕ × List ℕ)) (f g : List ℕ → List ℕ) (P Q : List ℕ → Type 0) (first : IsRead one f P) (second : IsRead two g Q) (make : List ℕ → List ℕ → Change)
     (bytes : List ℕ) (x : Change × List ℕ) → AreBytes bytes → two_at one two make bytes ≡ Some x

@@ -1,5 +1,5 @@
--- Whole journals: what is read is spelled so, and what is spelled so is read.
-use Rattle.par2_journal_format.proofs.Common.{◌≡◌, ℕ, ◌-◌, ◌+◌, ◌^◌, ◌≤◌, ◌<◌, Bool, true, false, cond, leb, eqb, ◌&&◌, List, [], ◌++◌, length, take, drop, Option, Some, None, refl, sym, ap, subst, ◌∙◌, append_assoc, arith, inl, inr, flat_map, ◌⊎◌, if◌then◌else◌, w64, to_le_bytes, leb-true, le-leb, eqb-true, and_parts, and_from, same_Some, cond_some, none-some, append-nil, nil_from_length, take-append-drop, take_at, drop_at, length-append, md5, Change, HalfwayPart, Journal, IsEntry, IsCursor, IsJournal, Spells, heading, cursor_bytes, entry_bytes, halfway_bytes, journal_bytes, spelling, AreBytes, bytes-take, ◌>>=◌, some_where, block_at, number_at, many_at, entry_at, halfway_at, cursor_in, IsSealed, heading_at, cursor_at, behind_cursor_at, parts_at}
+-- Whole journals: what is read is spelled so, and what is spelled so is read, before its digest is tested and after.
+use Rattle.par2_journal_format.proofs.Common.{◌≡◌, ℕ, ◌-◌, ◌+◌, ◌^◌, ◌≤◌, ◌<◌, Bool, true, false, cond, leb, eqb, ◌&&◌, List, [], ◌++◌, length, take, drop, Option, Some, None, refl, sym, ap, subst, ◌∙◌, append_assoc, arith, inl, inr, flat_map, ◌⊎◌, if◌then◌else◌, w64, to_le_bytes, leb-true, le-leb, eqb-true, and_parts, and_from, same_Some, cond_some, none-some, append-nil, nil_from_length, take-append-drop, take_at, drop_at, length-append, md5, Change, HalfwayPart, Journal, IsEntry, IsCursor, IsJournal, Spells, heading, cursor_bytes, entry_bytes, halfway_bytes, journal_bytes, spelling, AreBytes, bytes-take, ◌>>=◌, some_where, block_at, number_at, many_at, entry_at, halfway_at, cursor_in, IsSealed, heading_at, cursor_at, parts_at, ◌∷◌, Write, Replace, Rename, Remove, change_bytes, Result, Err, Fails, AreCounted, change_count, DecodeFault, JournalInvalid, Memory, ◌↔◌}
 use Rattle.std.specs.Str.{bytes_eq}
 use Rattle.std.proofs.lemmas.Slice.Eq.{bytes_eq-Decides}
 use Rattle.par2_spec.specs.declared.Version.{Version}
@@ -7,6 +7,8 @@ use Rattle.md5.proofs.StandardFacts.{length-md5}
 use Rattle.par2_spec.specs.declared.Version.TheVariants.{One, Two}
 use Rattle.par2_journal_format.proofs.Fields.{bind_some, Took, Took-then, block_read, block_again, number_read, number_again, many_read}
 use Rattle.par2_journal_format.proofs.Pieces.{entry_read, halfway_read}
+use Rattle.std.proofs.lemmas.List.Sums.{sum_by-cons}
+use Rattle.par2_journal_format.specs.declared.reading.Untested.{Untested}
 
 -- ---- heading
 
@@ -90,7 +92,7 @@ abbrev after_heading : Version × List ℕ → Option Journal
 after_heading v = block_at 16 v.1 >>= after_print v.0
 
 pub parts_take : (bytes : List ℕ) (j : Journal) → AreBytes bytes → parts_at bytes ≡ Some j → IsJournal j × (bytes ≡ journal_bytes j)
-unfolding parts_at behind_cursor_at journal_bytes
+unfolding parts_at journal_bytes
 parts_take bytes j fits e =
     let a = bind_some (heading_at bytes) after_heading j e in
     let v = a.0.0 in
@@ -134,7 +136,7 @@ right : (a b c d e f : List ℕ) → a ++ b ++ c ++ d ++ e ++ f ≡ a ++ (b ++ (
 right a b c d e f = simp (append_assoc, append-nil)
 
 parts_again : (j : Journal) → IsJournal j → parts_at (journal_bytes j) ≡ Some j
-unfolding parts_at behind_cursor_at journal_bytes
+unfolding parts_at journal_bytes
 parts_again j is =
     let v = j.version in
     let n : ℕ = length j.entries in
@@ -193,3 +195,72 @@ parts_spell content j fits sealed is =
 -- bytes spell at most one journal
 pub one_reading : (bytes : List ℕ) (a b : Journal) → Spells bytes a → Spells bytes b → a ≡ b
 one_reading bytes a b p q = same_Some a b (sym (spells_parts bytes a p) ∙ spells_parts bytes b q)
+
+-- ---- a change takes at least one byte, so bytes have no more changes than their length
+
+change_some : (change : Change) → 1 ≤ length (change_bytes change)
+change_some (Write name bytes) = omega arith
+change_some (Replace name bytes) = omega arith
+change_some (Rename from to) = omega arith
+change_some (Remove name) = omega arith
+
+changes_within : (changes : List Change) → length changes ≤ length (flat_map change_bytes changes)
+changes_within [] = omega arith
+changes_within (change ∷ changes) =
+    omega (arith, change_some change, changes_within changes, length-append (change_bytes change) (flat_map change_bytes changes))
+
+entries_within : (entries : List (List Change)) → change_count entries ≤ length (flat_map entry_bytes entries)
+entries_within [] = omega arith
+entries_within (entry ∷ entries) =
+    let counts : List ℕ = to_le_bytes w64 (length entry) in
+    omega (
+      arith,
+      sum_by-cons length entry entries,
+      changes_within entry,
+      entries_within entries,
+      length-append counts (flat_map change_bytes entry),
+      length-append (entry_bytes entry) (flat_map entry_bytes entries),
+    )
+
+counted : (j : Journal) (body : List ℕ) → body ≡ journal_bytes j → length body < 2 ^ 64 → AreCounted j.entries
+unfolding journal_bytes
+counted j body is fits =
+    let v = j.version in
+    let cursor = cursor_bytes v j.cursor in
+    let count : List ℕ = to_le_bytes w64 (length j.entries) in
+    let entries = flat_map entry_bytes j.entries in
+    let end = halfway_bytes j.halfway in
+    omega (
+      arith,
+      entries_within j.entries,
+      fits,
+      ap length is,
+      length-append (heading v ++ j.fingerprint ++ cursor ++ count ++ entries) end,
+      length-append (heading v ++ j.fingerprint ++ cursor ++ count) entries,
+    )
+
+-- ---- the bytes from which a journal was read
+
+pub too_short : (bytes : List ℕ) → length bytes < 16 → ¬ (IsSealed bytes)
+too_short bytes short sealed = absurd (omega (arith, short, sealed.long))
+
+module _ (content body digest : List ℕ) (enough : 16 ≤ length content) (start : body ≡ take (length content - 16) content) (end : digest ≡ drop (length content - 16) content) where
+  pub unread : parts_at body ≡ None → (j : Journal) → Spells content j → ⊥
+  unread none j spells = none-some j (sym none ∙ ap parts_at start ∙ spells_parts content j spells)
+
+  pub sealed : (digest ≡ md5 body) ↔ IsSealed content
+  sealed = ((λ right. record { long = enough; digest = sym end ∙ right ∙ ap md5 start }), (λ is. end ∙ is.digest ∙ ap md5 (sym start)))
+
+  pub untested : (j : Journal) → AreBytes content → length body < 2 ^ 64 → parts_at body ≡ Some j → IsJournal j × AreCounted j.entries × (IsSealed content → Spells content j)
+  untested j fits short is =
+      let read : parts_at (take (length content - 16) content) ≡ Some j = ap parts_at (sym start) ∙ is in
+      let parts = parts_take (take (length content - 16) content) j (bytes-take (length content - 16) content fits) read in
+      (parts.0, counted j body (start ∙ parts.1) short, λ right. parts_spell content j fits right read)
+
+-- nothing was read, and not because memory ran out
+pub refused : (fault : DecodeFault) (r : Result Untested DecodeFault) (o : Option Journal) → Fails fault o → (y : DecodeFault) × (r ≡ Err y) × (y ≡ fault) → r ≡ Err JournalInvalid → o ≡ None
+refused fault r o fails p e = by_fault fault fails (cc (e, p.1, p.2))
+  where
+    by_fault : (f : DecodeFault) → Fails f o → f ≡ JournalInvalid → o ≡ None
+    by_fault Memory h is = absurd cc
+    by_fault JournalInvalid h is = h

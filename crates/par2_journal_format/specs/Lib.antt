@@ -1,4 +1,3 @@
 pub mod JournalViews
 pub mod Reading
-pub mod Untested
 pub mod Fronts

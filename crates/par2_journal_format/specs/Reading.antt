@@ -1,15 +1,18 @@
 -- Reading from left to right: a value and the bytes after it, or nothing.
-use Rattle.std.specs.Prelude.{◌≡◌, ◌≤◌, ℕ, zero, suc, ◌-◌, List, [], ◌∷◌, length, take, drop, Option, Some, None, Result, Ok, Err, nat_lt, nat_le, ◌==◌, ◌&&◌, Bool, if◌then◌else◌}
+use Rattle.std.specs.Prelude.{◌≡◌, ◌<◌, ◌≤◌, ◌^◌, ◌↔◌, ℕ, zero, suc, ◌-◌, List, [], ◌∷◌, length, take, drop, Option, Some, None, Result, Ok, Err, nat_lt, nat_le, ◌==◌, ◌&&◌, Bool, if◌then◌else◌}
 use Rattle.std.specs.Int.{w64, from_le_bytes}
+use Rattle.std.specs.List.{sum_by}
 use Rattle.std.specs.Str.{bytes_eq}
 use Rattle.md5.specs.Md5.{md5}
 use Rattle.par2_spec.specs.Names.{is_name}
 use Rattle.par2_spec.specs.Changes.{Change, Write, Replace, Rename, Remove}
-use Rattle.par2_spec.specs.Journals.{HalfwayPart, Journal, heading}
+use Rattle.par2_spec.specs.Journals.{HalfwayPart, IsJournal, Journal, Spells, heading}
 use Rattle.par2_spec.specs.declared.Version.{Version}
 use Rattle.par2_spec.specs.declared.Version.TheVariants.{One, Two}
 use Rattle.par2_journal_format.specs.declared.fault.DecodeFault.{DecodeFault}
 use Rattle.par2_journal_format.specs.declared.fault.DecodeFault.TheVariants.{JournalInvalid, Memory}
+use Rattle.par2_journal_format.specs.declared.reading.Untested.{Untested}
+use Rattle.par2_journal_format.specs.JournalViews.{journal_of}
 
 -- the next step, if this one gives a value
 infixl 10 ◌>>=◌
@@ -53,22 +56,20 @@ behind_length_at bytes = do
   n ← number_at bytes
   block_at n.0 n.1
 
+-- a change of two values, one after the other
+abbrev pub two_at : (one two : List ℕ → Option (List ℕ × List ℕ)) → (List ℕ → List ℕ → Change) → List ℕ → Option (Change × List ℕ)
+two_at one two make bytes = do
+  a ← one bytes
+  b ← two a.1
+  Some (make a.0 b.0, b.1)
+
 -- a change: its kind in one byte, its name, and its content or its new name
 unfoldable pub change_at : List ℕ → Option (Change × List ℕ)
 change_at [] = None
 change_at (zero ∷ bytes) = None
-change_at (suc zero ∷ bytes) = do
-  name ← name_at bytes
-  content ← behind_length_at name.1
-  Some (Write name.0 content.0, content.1)
-change_at (suc (suc zero) ∷ bytes) = do
-  name ← name_at bytes
-  content ← behind_length_at name.1
-  Some (Replace name.0 content.0, content.1)
-change_at (suc (suc (suc zero)) ∷ bytes) = do
-  from ← name_at bytes
-  to ← name_at from.1
-  Some (Rename from.0 to.0, to.1)
+change_at (suc zero ∷ bytes) = two_at name_at behind_length_at Write bytes
+change_at (suc (suc zero) ∷ bytes) = two_at name_at behind_length_at Replace bytes
+change_at (suc (suc (suc zero)) ∷ bytes) = two_at name_at name_at Rename bytes
 change_at (suc (suc (suc (suc zero))) ∷ bytes) = do
   name ← name_at bytes
   Some (Remove name.0, name.1)
@@ -115,25 +116,41 @@ abbrev pub cursor_in : Version → ℕ → ℕ → ℕ
 cursor_in One c n = n
 cursor_in Two c n = c
 
--- the rest of a journal, after its cursor: the number of entries, the entries and the halfway part, with no bytes after
--- it
-unfoldable pub behind_cursor_at : Version → List ℕ → ℕ → List ℕ → Option Journal
-behind_cursor_at version print cursor bytes = do
-  n ← number_at bytes
-  entries ← many_at entry_at n.0 n.1
-  halfway ← halfway_at entries.1
-  some_where (nat_le (cursor_in version cursor n.0) n.0 && length halfway.1 == 0)
-      (record { version = version; fingerprint = print; cursor = cursor_in version cursor n.0; entries = entries.0; halfway = halfway.0 })
-
--- a journal without its digest: heading, fingerprint, cursor, and the rest
+-- a journal without its digest: heading, fingerprint, cursor, number of entries, entries and halfway part, with no bytes
+-- after it
 unfoldable pub parts_at : List ℕ → Option Journal
 parts_at bytes = do
   version ← heading_at bytes
   print ← block_at 16 version.1
   cursor ← cursor_at version.0 print.1
-  behind_cursor_at version.0 print.0 cursor.0 cursor.1
+  n ← number_at cursor.1
+  entries ← many_at entry_at n.0 n.1
+  halfway ← halfway_at entries.1
+  some_where (nat_le (cursor_in version.0 cursor.0 n.0) n.0 && length halfway.1 == 0)
+      (record { version = version.0; fingerprint = print.0; cursor = cursor_in version.0 cursor.0 n.0; entries = entries.0; halfway = halfway.0 })
 
 -- the bytes end with the digest of all bytes before it
 pub record IsSealed (bytes : List ℕ) : Type 0 where
   pub long : 16 ≤ length bytes
   pub digest : drop (length bytes - 16) bytes ≡ md5 (take (length bytes - 16) bytes)
+
+-- ---- journals that were decoded before their digest is tested
+
+-- how many changes the entries have in all
+abbrev pub change_count : List (List Change) → ℕ
+change_count entries = sum_by length entries
+
+-- a usize counts the changes
+abbrev pub AreCounted : List (List Change) → Type 0
+AreCounted entries = change_count entries < 2 ^ 64
+
+-- the parts that were read from these bytes before the digest is tested: they spell this journal if the digest is
+-- right, and none otherwise
+pub record IsUntested (bytes : List ℕ) (found : Untested) : Type 0 where
+  pub journal : IsJournal (journal_of found.journal)
+  pub counted : AreCounted found.journal.entries.items
+  -- the digest is right if and only if the bytes end with their digest
+  pub sealed : (found.digest.now ≡ md5 found.body.now) ↔ IsSealed bytes
+  -- then the bytes spell this journal; otherwise they spell none
+  pub right : IsSealed bytes → Spells bytes (journal_of found.journal)
+  pub only : (j : Journal) → Spells bytes j → IsSealed bytes

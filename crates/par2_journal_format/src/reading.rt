@@ -2,12 +2,11 @@
 //! returns what its definition in `specs/Reading.antt` reads, JournalInvalid if that reads nothing, or Memory.
 //! `decode_untested` splits the digest off and reads heading, fingerprint, cursor, entries and halfway part; `decode`
 //! tests the digest first.
-ghost use Rattle.std.specs.Prelude.{◌≡◌, ◌↔◌, ◌<◌, ◌≤◌, ◌-◌, ◌^◌, length, take, drop, IfOk, IfErr, IsTrue, Err, MatchResult};
+ghost use Rattle.std.specs.Prelude.{◌≡◌, ◌↔◌, IfOk, IsTrue, Err, MatchResult};
 ghost use Rattle.par2_spec.specs.Journals.{Journal as Defined, Spells};
 ghost use Rattle.par2_files.specs.ChangeViews.{change_of};
 ghost use Rattle.par2_journal_format.specs.Reading as reads;
-ghost use Rattle.par2_journal_format.specs.Reading.{Gives, IsSealed};
-ghost use Rattle.par2_journal_format.specs.Untested.{IsUntested};
+ghost use Rattle.par2_journal_format.specs.Reading.{Gives, IsSealed, IsUntested};
 ghost use Rattle.par2_journal_format.specs.JournalViews.{halfway_of, journal_of};
 ghost use Rattle.par2_journal_format.specs.declared.fault.DecodeFault.TheVariants.{JournalInvalid, Memory};
 
@@ -192,7 +191,7 @@ fn read_heading(bytes: &[u8]) -> Result<(Version, &[u8]), DecodeFault>
 }
 
 // The cursor, the number of undos among the entries. A journal of version 1 has no cursor: nothing is read, and
-// `read_behind_cursor` doesn't use the 0.
+// `read_parts` doesn't use the 0.
 #[tactic(auto, unfolding(crate::specs::Reading::cursor_at))]
 fn read_cursor(version: Version, bytes: &[u8]) -> Result<(u64, &[u8]), DecodeFault>
     ensures { Gives (λ x. (x.0, x.1.now)) result (reads.cursor_at version bytes.now) }
@@ -203,26 +202,22 @@ fn read_cursor(version: Version, bytes: &[u8]) -> Result<(u64, &[u8]), DecodeFau
     }
 }
 
-// The rest of a journal, after its cursor: the entries and the halfway part. `read` is the cursor that was read; in
-// version 1 all entries are undos. JournalInvalid if the cursor is above the number of entries, or if bytes are left.
-#[tactic(auto, unfolding(crate::specs::Reading::behind_cursor_at))]
-fn read_behind_cursor(
-    alloc: Global,
-    version: Version,
-    fingerprint: [u8; 16],
-    read: u64,
-    bytes: &[u8],
-) -> Result<Journal, DecodeFault>
-    ensures { Gives journal_of result
-        (reads.behind_cursor_at version fingerprint read bytes.now) }
+// The whole journal, from its bytes without the digest at the end. In version 1 all entries are undos. JournalInvalid
+// if the cursor is above the number of entries, or if bytes are left.
+#[tactic(auto, unfolding(crate::specs::Reading::parts_at))]
+fn read_parts(alloc: Global, bytes: &[u8]) -> Result<Journal, DecodeFault>
+    ensures { Gives journal_of result (reads.parts_at bytes.now) }
 {
-    let (count, rest) = read_number(bytes)?;
+    let (version, rest) = read_heading(bytes)?;
+    let (fingerprint, rest) = read_digest(rest)?;
+    let (read, rest) = read_cursor(version, rest)?;
+    let (count, rest) = read_number(rest)?;
+    let (entries, rest) = read_entries(alloc, count, rest)?;
+    let (halfway, rest) = read_halfway(alloc, rest)?;
     let cursor = match version {
         Version::One => count,
         Version::Two => read,
     };
-    let (entries, rest) = read_entries(alloc, count, rest)?;
-    let (halfway, rest) = read_halfway(alloc, rest)?;
     if cursor > count || !rest.is_empty() {
         return Err(DecodeFault::JournalInvalid);
     }
@@ -235,38 +230,13 @@ fn read_behind_cursor(
     })
 }
 
-// The whole journal, from its bytes without the digest at the end.
-#[tactic(auto, unfolding(crate::specs::Reading::parts_at))]
-fn read_parts(alloc: Global, bytes: &[u8]) -> Result<Journal, DecodeFault>
-    ensures { Gives journal_of result (reads.parts_at bytes.now) }
-{
-    let (version, rest) = read_heading(bytes)?;
-    let (fingerprint, rest) = read_digest(rest)?;
-    let (cursor, rest) = read_cursor(version, rest)?;
-    read_behind_cursor(alloc, version, fingerprint, cursor, rest)
-}
-
-// Splits a journal's bytes into its body and the digest at the end, an MD5. The digest isn't tested.
-fn split_digest(bytes: &[u8]) -> Result<(&[u8], &[u8]), DecodeFault>
-    ensures long { IfOk result (λ _. 16 ≤ length bytes.now) }
-    ensures body { IfOk result (λ x. x.0.now ≡ take (length bytes.now - 16) bytes.now) }
-    ensures digest { IfOk result (λ x. x.1.now ≡ drop (length bytes.now - 16) bytes.now) }
-    ensures fits { IfOk result (λ x. length x.0.now < 2 ^ 64) }
-    ensures short { IfErr result (λ fault. (fault ≡ JournalInvalid) × (length bytes.now < 16)) }
-{
-    if bytes.len() < 16 {
-        return Err(DecodeFault::JournalInvalid);
-    }
-    Ok(bytes.split_at(bytes.len() - 16))
-}
-
 /// Whether the bytes end with the MD5 of all bytes before it (`IsSealed`), as every journal does. It allocates nothing.
 pub fn is_sealed(bytes: &[u8]) -> bool
     ensures { IsTrue result ↔ IsSealed bytes.now }
 {
-    match split_digest(bytes) {
-        Ok((body, end)) => end == Md5::digest(body).as_slice(),
-        Err(_) => false,
+    match bytes.split_last_chunk::<16>() {
+        Some((body, end)) => end.as_slice() == Md5::digest(body).as_slice(),
+        None => false,
     }
 }
 
@@ -300,11 +270,13 @@ pub fn decode_untested(alloc: Global, bytes: &[u8]) -> Result<Untested<'_>, Deco
     ensures found { IfOk result (IsUntested bytes.now) }
     ensures invalid { result ≡ Err JournalInvalid → (j : Defined) → Spells bytes.now j → ⊥ }
 {
-    let (body, digest) = split_digest(bytes)?;
+    let Some((body, digest)) = bytes.split_last_chunk::<16>() else {
+        return Err(DecodeFault::JournalInvalid);
+    };
     let journal = read_parts(alloc, body)?;
     Ok(Untested {
         journal,
         body,
-        digest,
+        digest: digest.as_slice(),
     })
 }

@@ -170,16 +170,6 @@ fn append_digest(out: &mut Vec<u8>, digest: [u8; 16]) -> Result<()>
     out.extend_from_slice(&digest)
 }
 
-// The last step of two journals: appends to each its MD5, computed side by side with the other's.
-fn append_both_digests(alloc: Global, one: &mut Vec<u8>, other: &mut Vec<u8>) -> Result<()>
-    ensures one { OnOk result (one.new.items ≡ one.old.items ++ md5 one.old.items) }
-    ensures other { OnOk result (other.new.items ≡ other.old.items ++ md5 other.old.items) }
-{
-    let digests = buffer_digests(alloc, &[one.as_slice(), other.as_slice()])?;
-    append_digest(one, digests[0])?;
-    append_digest(other, digests[1])
-}
-
 /// The bytes of the settled journal with these parts, its digest included. Err if memory runs out.
 pub fn encode(alloc: Global, parts: &JournalView<'_>) -> Result<Vec<u8>>
     requires { parts.now.cursor ≤ length parts.now.entries.now + length parts.now.newer.now }
@@ -217,6 +207,8 @@ pub fn finish_both(
 {
     let mut halfway = body(front, Some(halfway))?;
     let mut after = body(begin(alloc, after)?, None)?;
-    append_both_digests(alloc, &mut halfway, &mut after)?;
+    let digests = buffer_digests(alloc, &[halfway.as_slice(), after.as_slice()])?;
+    append_digest(&mut halfway, digests[0])?;
+    append_digest(&mut after, digests[1])?;
     Ok(JournalBytes { halfway, after })
 }

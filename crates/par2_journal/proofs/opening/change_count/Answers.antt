@@ -1,6 +1,6 @@
 use Rattle.std.proofs.Common.{ap₂}
 use Rattle.par2_journal.proofs.Common.{◌+◌, take_all, length, sym, ap, ◌∙◌, arith}
-use Rattle.par2_journal_format.specs.Untested.{change_count}
+use Rattle.par2_journal_format.specs.Reading.{change_count}
 use Rattle.std.proofs.lemmas.List.Sums.{sum_by_more, sum_by_more_le}
 use Rattle.par2_journal.proofs.opening.change_count.Goals as goal
 

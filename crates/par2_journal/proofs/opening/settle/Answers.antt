@@ -1,6 +1,6 @@
 use Rattle.par2_journal.proofs.Common.{◌≡◌, ◌≤◌, take, drop, sym, subst, arith, IfOk, reverse, is_valid, leads, session_at, and_parts, leading_walks}
 use Rattle.par2_journal.proofs.SessionEntries.{places_before, places_behind, places_counted}
-use Rattle.par2_journal_format.specs.Untested.{change_count}
+use Rattle.par2_journal_format.specs.Reading.{change_count}
 use Rattle.par2_journal.proofs.opening.settle.Goals as goal
 
 pub returns-clause-walks : goal.returns-clause-walks

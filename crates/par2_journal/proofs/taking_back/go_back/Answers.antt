@@ -17,7 +17,7 @@ leads : (c : After-ne) → pointwise bytes_eq (take (length c.deref.result.now -
 leads c =
     let way = changes_in c.args.way.now in
     let each : length c.args.wanted.now ≡ length way = omega (arith, c.requires, length-map c.args.way.now change_of) in
-    goes c.reserve.new.self.files way c.args.wanted.now _ each (sym c.in_ok-can_apply.ensures ∙ c.if-not-branch.false) (each_after c.deref.result.now c.reserve.new.self.files way (c.deref.ensures.value ∙ c.in_ok-found.ensures.along))
+    goes c.reserve.new.self.files way c.args.wanted.now _ each (sym (c.in_ok-go_along.ensures _ c.of.ensures).reported ∙ c.if-not-branch.false) (each_after c.deref.result.now c.reserve.new.self.files way (c.deref.ensures.value ∙ c.in_ok-found.ensures.along))
     ∙ ap (λ f. leads_through f way c.args.wanted.now) c.reserve.ensures.files
 
 -- ---- the goals
@@ -25,17 +25,17 @@ leads c =
 pub returns-then-not-branch-clause-refused : goal.returns-then-not-branch-clause-refused
 returns-then-not-branch-clause-refused c =
     let way = changes_in c.args.way.now in
-    inr (refl, ap (λ f. leads_through f way c.args.wanted.now) (sym c.reserve.ensures.files) ∙ sym (goes_not c.reserve.new.self.files way c.args.wanted.now (sym c.in_ok-can_apply.ensures ∙ c.if-not-branch.true)))
+    inr (refl, ap (λ f. leads_through f way c.args.wanted.now) (sym c.reserve.ensures.files) ∙ sym (goes_not c.reserve.new.self.files way c.args.wanted.now (sym (c.in_ok-go_along.ensures _ c.of.ensures).reported ∙ c.if-not-branch.true)))
 
 pub fingerprints-requires-clause-taken : goal.fingerprints-requires-clause-taken
-fingerprints-requires-clause-taken c = taken c.reserve.new.self c.args.way.now c.in_ok-can_apply.field-0 c.in_ok-can_apply.ensures c.if-not-branch.false (omega (arith, c.in_ok-reserve.ensures.ok))
+fingerprints-requires-clause-taken c = taken c.reserve.new.self c.args.way.now c.in_ok-go_along.field-0 (c.in_ok-go_along.ensures _ c.of.ensures).reported c.if-not-branch.false (omega (arith, c.in_ok-reserve.ensures.ok))
 
 pub returns-then-ne-clause-refused : goal.returns-then-ne-clause-refused
 returns-then-ne-clause-refused c =
     inr (refl, sym (leads (goal.at.returns-then-ne-clause-refused c).After-ne) ∙ not-true _ (sym c.ne.ensures ∙ c.if-ne.true))
 
 pub apply_all-requires : goal.apply_all-requires
-apply_all-requires c = taken c.reserve.new.self c.args.way.now c.in_ok-can_apply.field-0 c.in_ok-can_apply.ensures c.if-not-branch.false (omega (arith, c.in_ok-reserve.ensures.ok))
+apply_all-requires c = taken c.reserve.new.self c.args.way.now c.in_ok-go_along.field-0 (c.in_ok-go_along.ensures _ c.of.ensures).reported c.if-not-branch.false (omega (arith, c.in_ok-reserve.ensures.ok))
 
 pub returns-clause-leads : goal.returns-clause-leads
 returns-clause-leads c = sym (leads (goal.at.returns-clause-leads c).After-ne) ∙ not-false _ (sym c.ne.ensures ∙ c.if-ne.false)
@@ -43,5 +43,5 @@ returns-clause-leads c = sym (leads (goal.at.returns-clause-leads c).After-ne) �
 pub returns-clause-went : goal.returns-clause-went
 returns-clause-went c =
     went_forth c.args.folder.now.files c.reserve.new.self c.apply_all.new.self c.args.way.now c.apply_all.new.changes c.reserve.ensures.files
-    (taken c.reserve.new.self c.args.way.now c.in_ok-can_apply.field-0 c.in_ok-can_apply.ensures c.if-not-branch.false (omega (arith, c.in_ok-reserve.ensures.ok)))
+    (taken c.reserve.new.self c.args.way.now c.in_ok-go_along.field-0 (c.in_ok-go_along.ensures _ c.of.ensures).reported c.if-not-branch.false (omega (arith, c.in_ok-reserve.ensures.ok)))
     c.apply_all.ensures.folder c.apply_all.ensures.way_back

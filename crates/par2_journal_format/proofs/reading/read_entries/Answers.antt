@@ -1,5 +1,5 @@
 use Rattle.par2_journal_format.proofs.Common.{err_from_is_err_and, entry_at}
-use Rattle.par2_journal_format.proofs.Many.{goes_on, stops, ends}
+use Rattle.par2_journal_format.proofs.Fields.{goes_on, stops, ends}
 use Rattle.par2_journal_format.proofs.reading.read_entries.Goals as goal
 
 pub returns-in_err-entry : goal.returns-in_err-entry

@@ -1,5 +1,5 @@
 use Rattle.par2_journal_format.proofs.Common.{take, IsChange, change_bytes, changes_in}
-use Rattle.par2_journal_format.proofs.Many.{AreWritten}
+use Rattle.par2_journal_format.proofs.Fields.{AreWritten}
 use Rattle.par2_journal_format.proofs.writing.append_changes.Given as goal
 
 abbrev pub invariant-loop-change : goal.invariant-loop-change
