@@ -1,27 +1,26 @@
 -- Names from other crates that the proofs of this one use.
 
 use Rattle.std.specs.Prelude.{if◌then◌else◌, slice_index_or}
-pub use Rattle.std.proofs.Common.{Bool, Bor, Err, Global, List, None, Option, Some, Vec, [], ap, append-nil, append_assoc, ap₂, arith, below_more, cond, drop, eqb, false, get_or, inl, inr, length, length-append, map, mul-le-mul_right, nat_le, nat_lt, not, refl, replicate, rules, string_bytes, subst, suc, sym, take, tests, true, zero, zero-add, ℕ, ◌%◌, ◌&&◌, ◌*◌, ◌++◌, ◌+◌, ◌-◌, ◌/◌, ◌<◌, ◌^◌, ◌||◌, ◌∙◌, ◌∷◌, ◌≡◌, ◌≤◌}
+pub use Rattle.std.proofs.Common.{Bool, Bor, Global, List, None, Option, Some, Vec, [], ap, append-nil, append_assoc, ap₂, arith, below_more, cond, drop, eqb, false, get_or, inl, inr, length, length-append, map, mul-le-mul_right, nat_le, nat_lt, not, refl, replicate, rules, string_bytes, subst, suc, sym, take, tests, true, zero, zero-add, ℕ, ◌%◌, ◌&&◌, ◌*◌, ◌++◌, ◌+◌, ◌-◌, ◌/◌, ◌<◌, ◌^◌, ◌||◌, ◌∙◌, ◌∷◌, ◌≡◌, ◌≤◌}
 pub use Rattle.std.proofs.lemmas.Bool.{and_from, and_parts, cases_lt, eq-eqb, eqb-false, eqb-true, false_from_ne_true, false≢true, le-leb, le-ltb, leb-true, lt-ltb, ltb-false, ltb-true, ne_eqb, not-false, not-true, not_from_false, not_from_true, or_from, or_parts}
 pub use Rattle.std.proofs.lemmas.Grind.{div_ceil_times, flat_map-append}
 pub use Rattle.std.proofs.lemmas.Iterator.{YieldsList-from_slice, items_from_collect}
-pub use Rattle.std.proofs.lemmas.List.{drop_all, drop_at, drop_more, ext_get_or, flat_map_more, get_or-append_right, get_or-drop, get_or-map, get_or-take, get_or_append_left, get_or_default, length-drop, length-map, length-replicate, length-take-le, map-append, map_more, nil_from_length, take-append-drop, take-map, take_all, take_at, take_more, with_items_is}
+pub use Rattle.std.proofs.lemmas.List.{drop_all, drop_at, drop_more, ext_get_or, flat_map_more, get_or-append_right, get_or-drop, get_or-map, get_or-take, get_or_append_left, get_or_default, length-drop, length-map, length-replicate, length-take-le, map-append, map_more, nil_from_length, take-append-drop, take_all, take_at, take_more, with_items_is}
 pub use Rattle.std.proofs.lemmas.List.Folds.{flat_map-map, length-flat_map-take, list_any-append}
 pub use Rattle.std.proofs.lemmas.List.FromFn.{get_or-enumerate_from, get_or-map-range_with_len, get_or-range_with_len, length-enumerate_from, length-map-range_with_len, length-range_with_len, map-range_with_len_more}
 pub use Rattle.std.proofs.lemmas.List.Sums.{position_or_len_is, sum-map, sum_by-cons, sum_by_more_le}
 pub use Rattle.std.proofs.lemmas.Result.{IfOk-weaker, err_from_is_err_and, on_ok_weaker}
 pub use Rattle.std.proofs.lemmas.Simd.{map-map}
 pub use Rattle.std.specs.List.{AllByRecursion, IsDistinct, cons_option, enumerate_from, list_any, position_or_len, range_with_len, starts_with}
-pub use Rattle.std.specs.Prelude.{IfOk, IfSome, codes, filter, filter_map, flat_map, is_some, nat_eq, option_map, position, sum_by, ◌==◌}
+pub use Rattle.std.specs.Prelude.{IfSome, codes, filter, filter_map, flat_map, is_some, nat_eq, option_map, position, sum_by, ◌==◌}
 pub use Rattle.std.specs.Str.{bytes_eq, is_utf8}
 pub use Rattle.std.specs.Vec.Iter.{into_iter_items, into_iter_len}
 pub use Rattle.par2_create.specs.Faults.{duplicate_input, existing, long_name}
 unfoldable pub use Rattle.par2_create.specs.Faults.{files_fault, ids_fault, inputs_fault}
-pub use Rattle.par2_create.specs.Outputs.{RecordsInputs, inputs_of, volume_names, put_change, volume_at, volume_file, volumes_requested, volumes_of}
-pub use Rattle.par2_create.specs.Volumes.{as_file, blank_volume, exponents_in, volume_exponents, length_with, place_in, places_in, places_of, slice_of, volume_with, with_slices}
+pub use Rattle.par2_create.specs.Outputs.{RecordsInputs, inputs_of, volume_names, put_change, volume_at, volume_file_name, volumes_requested, volumes_of, as_file, blank_volume, volume_exponents, length_with, place_in, places_in, places_of, slice_of, volume_with, with_slices}
 pub use Rattle.par2_create.specs.declared.inputs.Input.{Input}
 pub use Rattle.par2_create.specs.declared.names.Volume.{Volume}
-pub use Rattle.par2_create.specs.declared.index.Parts.{Parts}
+pub use Rattle.par2_create.specs.declared.records.Parts.{Parts}
 pub use Rattle.par2_packets.proofs.LaterDigests.{head_of, length-head, length-undigested, part_from, undigested_is}
 pub use Rattle.par2_packets.proofs.Pieces.{drop_behind, length-pieces, piece_at}
 pub use Rattle.par2_packets.specs.Pieces.{ArePieces}

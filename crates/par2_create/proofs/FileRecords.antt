@@ -1,5 +1,5 @@
--- The records of files, one after the other.
-use Rattle.par2_create.proofs.Common.{ℕ, ◌+◌, ◌<◌, ◌≡◌, refl, sym, ap, ap₂, ◌∙◌, subst, List, [], ◌∷◌, ◌++◌, length, get_or, map, take, string_bytes, get_or-map, map_more, map-append, map-map, Folder, File, Input, in_id_order, record_of, input_file, files_of, file_record_of, AreRecords, FileRecord}
+-- The records of files, and their File IDs.
+use Rattle.par2_create.proofs.Common.{◌≡◌, ℕ, List, length, map, sym, ap, ◌∙◌, subst, Some, None, ◌==◌, IsDistinct, bytes_eq, not_from_true, not_from_false, eqb-true, eq-eqb, false_from_ne_true, length-map, map-map, fault_where, distinct, File, id_of, record_of, DuplicateId, AreDistinct, distinct_from_std, std_from_distinct, distinct_same, distinct_by_length, file_record_of, ids_fault, AreRecords, ◌+◌, ◌<◌, refl, ap₂, [], ◌∷◌, ◌++◌, get_or, take, string_bytes, get_or-map, map_more, map-append, Folder, Input, in_id_order, input_file, files_of, FileRecord}
 use Rattle.std.specs.Prelude.{IsPermutation}
 use Rattle.std.specs.List.Sorted.{IsStrictlyIncreasing}
 use Rattle.md5.specs.Md5.{md5}
@@ -7,6 +7,28 @@ use Rattle.par2_packets.specs.PacketViews.{record_id_number}
 use Rattle.std.specs.Int.{w128, from_le_bytes}
 use Rattle.par2_spec.specs.Volumes as volumes
 use Rattle.par2_spec.proofs.OrderLaws.{rising_records, files_of_ordered}
+
+ids_of_records : (s : ℕ) (files : List File) → map (λ (file : volumes.FileRecord). file.id) (map (record_of s) files) ≡ map id_of files
+unfolding record_of
+ids_of_records s files = map-map (λ (file : volumes.FileRecord). file.id) (record_of s) files
+
+-- the identifiers in the records are those of the files
+pub ids_said : (s : ℕ) (files : List File) (records : List FileRecord) → AreRecords s files records → map (λ (file : FileRecord). file.id) records ≡ map (λ (file : volumes.FileRecord). file.id) (map (record_of s) files)
+ids_said s files records are = sym (map-map (λ (file : volumes.FileRecord). file.id) file_record_of records) ∙ ap (map (λ (file : volumes.FileRecord). file.id)) are
+
+pub ids_accepted : (files : List File) (s : ℕ) → IsDistinct bytes_eq (map (λ (file : volumes.FileRecord). file.id) (map (record_of s) files)) → ids_fault files ≡ None
+unfolding ids_fault
+ids_accepted files s h =
+    let once : AreDistinct (map id_of files) = distinct_from_std (map id_of files) (subst (IsDistinct bytes_eq) (ids_of_records s files) h) in
+    let size : length (distinct (map id_of files)) ≡ length files = ap length (distinct_same (map id_of files) once) ∙ length-map files id_of in
+    ap (λ b. fault_where b DuplicateId) (not_from_true (length (distinct (map id_of files)) == length files) (eq-eqb (length (distinct (map id_of files))) (length files) size))
+
+pub ids_refused : (files : List File) (s : ℕ) → (IsDistinct bytes_eq (map (λ (file : volumes.FileRecord). file.id) (map (record_of s) files)) → ⊥) → ids_fault files ≡ Some DuplicateId
+unfolding ids_fault
+ids_refused files s h =
+    ap (λ b. fault_where b DuplicateId) (not_from_false (length (distinct (map id_of files)) == length files) (false_from_ne_true (length (distinct (map id_of files)) == length files) (λ e.
+    let size : length (distinct (map id_of files)) ≡ length (map id_of files) = eqb-true (length (distinct (map id_of files))) (length files) e ∙ sym (length-map files id_of) in
+    h (subst (IsDistinct bytes_eq) (sym (ids_of_records s files)) (std_from_distinct (map id_of files) (distinct_by_length (map id_of files) size))))))
 
 -- one more record, that of the next input
 pub record_push : (s : ℕ) (inputs : List Input) (i : ℕ) (input : Input) (xs : List FileRecord) (x : FileRecord) → i < length inputs → input ≡ get_or inputs i input → AreRecords s (map input_file (take i inputs)) xs

@@ -1,4 +1,4 @@
--- What `auto` is given, by the function that needs it.
+-- What `auto` is given, by module.
 use Rattle.par2_create.proofs.Common.{answered_so, append-nil, append_assoc, below_more, create_applies, err_from_is_err_and, false_from_ne_true, false≢true, get_or-enumerate_from, get_or-map, get_or_default, holds_more, le-ltb, length-enumerate_from, length-map, length-replicate, lt-ltb, map-append, map-range_with_len_more, map_more, never_found, nil_from_length, not-false, not-true, on_ok_weaker, position-map, refused_by, sum_by_more_le, take_all, take_more, with_items_is, zero-add}
 use Rattle.par2_create.proofs.FileRecords.{digest_at, in_order, record_push}
 use Rattle.par2_create.proofs.VolumeNumbers.{long_without_base, none_long, one_is_long, volumes_below, volumes_more}
@@ -6,46 +6,19 @@ use Rattle.par2_create.proofs.GoodWords.{head_passed}
 use Rattle.par2_spec.proofs.EarlyLaws.{refused_early}
 use Rattle.par2_spec.proofs.CommandLaws.{create_leads}
 use Rattle.par2_create.proofs.RefusalGroups.{early_by}
-use Rattle.par2_create.proofs.IndexBytes.{index_bytes}
-use Rattle.par2_create.proofs.SliceLists.{appended_all, appended_next, slices_push, some_left, taken}
+use Rattle.par2_create.proofs.IndexBytes.{index_bytes, appended_all, appended_next, slices_push, some_left, taken}
 use Rattle.par2_create.proofs.Places.{again_found, again_nowhere}
 use Rattle.std.proofs.lemmas.List.Sorted.{IsPermutation-map}
 use Rattle.par2_spec.proofs.MovesLaws.{no_file, no_names_file}
 use Rattle.par2_spec.proofs.SliceLaws.{files_push}
 use Rattle.par2_create.proofs.VolumePlaces.{length-places, length-volume, packet_ends, places_apart, places_blank, places_within, volumes_written}
 
-pub ruleset for_create_plan_create = (err_from_is_err_and, create_applies, answered_so, never_found, refused_early, create_leads, head_passed, long_without_base, early_by)
+pub ruleset create = (append-nil, nil_from_length, position-map, err_from_is_err_and, create_applies, answered_so, never_found, refused_early, create_leads, head_passed, long_without_base, early_by)
 
-pub ruleset for_index_index_of = (append-nil, index_bytes, appended_all, appended_next)
+pub ruleset inputs = (lt-ltb, sum_by_more_le, below_more, get_or_default, take_more, not-true, not-false, holds_more, again_found, again_nowhere)
 
-pub ruleset for_inputs_are_too_many = (lt-ltb, sum_by_more_le)
+pub ruleset names = (append-nil, lt-ltb, le-ltb, err_from_is_err_and, refused_by, volumes_below, volumes_more, none_long, one_is_long)
 
-pub ruleset for_inputs_no_duplicate = (below_more, get_or_default, take_more, not-true, not-false, holds_more, again_found, again_nowhere)
+pub ruleset records = (append-nil, index_bytes, appended_all, appended_next, digest_at, record_push, with_items_is, IsPermutation-map, in_order, false_from_ne_true, false≢true, no_file, no_names_file, get_or-map, length-map, files_push, slices_push)
 
-pub ruleset for_names_volumes = (append-nil, lt-ltb, le-ltb, err_from_is_err_and, refused_by, volumes_below, volumes_more, none_long, one_is_long)
-
-pub ruleset for_outputs_push_files = (append-nil, nil_from_length)
-
-pub ruleset for_records_file_records = (digest_at, record_push)
-
-pub ruleset for_records_sorted_by_id = (with_items_is, IsPermutation-map, in_order)
-
-pub ruleset for_sources_bytes_of = (false_from_ne_true, false≢true, no_file, no_names_file)
-
-pub ruleset for_sources_input_slices = (get_or-map, length-map, files_push)
-
-pub ruleset for_sources_with_slices = (slices_push)
-
-pub ruleset for_volumes_append_places = (append-nil, append_assoc, zero-add, map-range_with_len_more, packet_ends)
-
-pub ruleset for_volumes_blank_volumes = (map-append, map_more, take_all)
-
-pub ruleset for_volumes_digested = (map-append, map_more, take_all, with_items_is, some_left, taken)
-
-pub ruleset for_volumes_places = (zero-add, length-map, length-replicate, get_or-map, get_or_default, length-enumerate_from, get_or-enumerate_from, appended_all, appended_next, length-volume)
-
-pub ruleset for_volumes_volume_files = (with_items_is)
-
-pub ruleset for_volumes_write_slices = (length-map, on_ok_weaker, places_apart, places_blank, places_within, length-places, volumes_written)
-
-pub ruleset for_words_bad_name = (position-map)
+pub ruleset volumes = (append-nil, append_assoc, zero-add, map-range_with_len_more, map-append, map_more, take_all, with_items_is, some_left, taken, length-map, length-replicate, get_or-map, get_or_default, length-enumerate_from, get_or-enumerate_from, appended_all, appended_next, length-volume, packet_ends, on_ok_weaker, places_apart, places_blank, places_within, length-places, volumes_written)

@@ -1,4 +1,3 @@
 pub mod Records
 pub mod Faults
 pub mod Outputs
-pub mod Volumes

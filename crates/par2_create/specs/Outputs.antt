@@ -1,5 +1,5 @@
--- The outputs of a create, by parts.
-use Rattle.std.specs.Prelude.{ℕ, ◌≡◌, ◌+◌, List, ◌++◌, map, flat_map, if◌then◌else◌}
+-- The outputs of a create, by parts: the volumes, into which recovery slices are written, and the places of these.
+use Rattle.std.specs.Prelude.{ℕ, ◌≡◌, ◌+◌, List, ◌++◌, map, flat_map, if◌then◌else◌, ◌*◌, length, replicate, Vec}
 use Rattle.par2_spec.specs.Packets.{packet}
 use Rattle.par2_spec.specs.Folders.{Folder, File, has}
 use Rattle.par2_spec.specs.Changes.{Change, Write, Replace}
@@ -9,7 +9,13 @@ use Rattle.par2_packets.specs.PacketViews.{file_record_of}
 use Rattle.par2_create.specs.Records as records
 use Rattle.par2_create.specs.declared.records.RecoverySet.{RecoverySet}
 use Rattle.par2_create.specs.declared.names.Volume.{Volume}
-use Rattle.par2_create.specs.declared.index.Parts.{Parts}
+use Rattle.par2_create.specs.declared.records.Parts.{Parts}
+use Rattle.std.specs.declared.alloc.Global.{Global}
+use Rattle.std.specs.List.{enumerate_from, range_with_len}
+use Rattle.par2_spec.specs.Recovery.{recovery}
+use Rattle.par2_spec.specs.Sums.{lists_of}
+use Rattle.par2_packets.specs.Recoveries.{undigested}
+use Rattle.par2_transform.specs.declared.outputs.Place.{Place}
 
 -- volume i of c recovery slices from exponent f on
 abbrev pub volume_at : List ℕ → ℕ → ℕ → ℕ → Volume
@@ -44,10 +50,54 @@ inputs_of parts = records.slices_of_records parts.folder.now.files parts.set.now
 abbrev pub volume_file_name : Parts → Volume → List ℕ
 volume_file_name parts volume = parts.index.items ++ flat_map packet (recovery_packets parts.set.now.slice parts.set_id (inputs_of parts) volume.first volume.count)
 
--- a volume as a file
-abbrev pub volume_file : Parts → Volume → File
-volume_file parts volume = (volume.name, volume_file_name parts volume)
-
 -- the change that writes a file, or replaces it if it exists already
 abbrev pub put_change : Folder → File → Change
 put_change folder file = if has folder file.0 then Replace file.0 file.1 else Write file.0 file.1
+
+-- the recovery slice of exponent e
+abbrev pub slice_of : Parts → ℕ → List ℕ
+slice_of parts e = recovery parts.set.now.slice (inputs_of parts) e
+
+-- the bytes of a volume with these recovery slices and without MD5s
+abbrev pub volume_with : Parts → (slice : ℕ → List ℕ) → Volume → List ℕ
+volume_with parts slice volume = parts.index.items ++ flat_map (λ e. undigested parts.set_id e (slice e)) (range_with_len volume.first volume.count)
+
+-- the volume with zeros for its recovery slices
+abbrev pub blank_volume : Parts → Volume → List ℕ
+blank_volume parts volume = volume_with parts (λ e. replicate parts.set.now.slice 0) volume
+
+-- the volume with its recovery slices
+abbrev pub with_slices : Parts → Volume → List ℕ
+with_slices parts volume = volume_with parts (slice_of parts) volume
+
+-- the buffers are those of the volumes, in order
+abbrev pub AreBuffers : {Z : Type 0} → (Volume → List ℕ) → List Volume → Vec (Vec ℕ Global) Z → Type 0
+AreBuffers volume_bytes volumes buffers = lists_of buffers.items ≡ map volume_bytes volumes
+
+-- bytes under a name, as a file
+abbrev pub as_file : List ℕ × Vec ℕ Global → File
+as_file file = (file.0, file.1.items)
+
+-- the volumes as files, in order
+abbrev pub AreFiles : {Z : Type 0} → Parts → List Volume → Vec (List ℕ × Vec ℕ Global) Z → Type 0
+AreFiles parts volumes files = map as_file files.items ≡ map (λ volume. (volume.name, volume_file_name parts volume)) volumes
+
+-- the exponents of all volumes' recovery slices, in order
+abbrev pub volume_exponents : List Volume → List ℕ
+volume_exponents volumes = flat_map (λ volume. range_with_len volume.first volume.count) volumes
+
+-- the length of the index and this many packets of recovery slices
+abbrev pub length_with : Parts → ℕ → ℕ
+length_with parts packets = length parts.index.items + packets * (68 + parts.set.now.slice)
+
+-- the place of recovery slice k of volume i: in its packet, after the header and the exponent
+abbrev pub place_in : Parts → (i k : ℕ) → Place
+place_in parts i k = record { buffer = i; at = length_with parts k + 68 }
+
+-- the places of a volume's recovery slices, in order; the volume comes with its number
+abbrev pub places_in : Parts → ℕ × Volume → List Place
+places_in parts z = map (place_in parts z.0) (range_with_len 0 z.1.count)
+
+-- the places of all volumes' recovery slices, in order
+abbrev pub places_of : Parts → List Volume → List Place
+places_of parts volumes = flat_map (places_in parts) (enumerate_from 0 volumes)

@@ -1,13 +1,10 @@
 -- Records of files, and their slices.
 use Rattle.std.specs.Prelude.{◌≡◌, ℕ, List, map, string_bytes}
-use Rattle.std.specs.Borrow.{Bor}
 use Rattle.par2_spec.specs.Commands.{files_of}
 use Rattle.par2_spec.specs.Folders.{File, Folder}
-use Rattle.par2_spec.specs.Slices.{padded}
 use Rattle.par2_spec.specs.Volumes.{all_slices, record_of}
 use Rattle.par2_packets.specs.PacketViews.{file_record_of}
 use Rattle.par2_packets.specs.declared.record.FileRecord.{FileRecord}
-use Rattle.par2_slices.specs.Positions.{buffers_of}
 use Rattle.par2_create.specs.declared.inputs.Input.{Input}
 
 -- an input as a file
@@ -25,7 +22,3 @@ AreRecords s files records = map file_record_of records ≡ map (record_of s) fi
 -- the padded slices of the files of these records in the folder, one file after the other
 abbrev pub slices_of_records : Folder → ℕ → List FileRecord → List (List ℕ)
 slices_of_records folder s files = all_slices s (files_of folder (names_of files))
-
--- padded with zeros, the buffers are these slices
-abbrev pub ArePadded : ℕ → List (List ℕ) → List (Bor (List ℕ)) → Type 0
-ArePadded s slices buffers = map (padded s) (buffers_of buffers) ≡ slices

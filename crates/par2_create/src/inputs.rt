@@ -1,5 +1,7 @@
 //! The input files, and why they can't be taken: `no_duplicate` checks their names, `inputs_in` looks them up, and
 //! `files_fault` checks them before their MD5s are computed. `set_of` makes the set of them.
+#![tactic(auto, using(crate::proofs::Steps::inputs))]
+
 ghost use Rattle.std.specs.Prelude.{◌≡◌, ◌≤◌, ◌==◌, nat_lt, length, map, sum_by, position, IfOk, IfSome, OnOk, Some, None, ◌<◌, ◌&&◌, not};
 ghost use Rattle.par2_spec.specs.Slices as spec;
 ghost use Rattle.md5.specs.Md5.{md5};
@@ -27,7 +29,6 @@ pub struct Input<'f> {
 }
 
 /// Refuses an input that was named before, by `DuplicateInput` with its place, counted from 1.
-#[tactic(auto, using(crate::proofs::Steps::for_inputs_no_duplicate))]
 pub fn no_duplicate(alloc: Global, names: &[Name]) -> Result<(), Fault>
     ensures refused { FailsFor (duplicate_input names.now) result }
     ensures accepted { IfOk result (λ _. duplicate_input names.now ≡ None) }
@@ -77,7 +78,6 @@ fn first_empty(inputs: &[Input]) -> Option<usize>
 }
 
 // Whether the inputs have more than 32,768 slices of `size` bytes, the most that a set may have.
-#[tactic(auto, using(crate::proofs::Steps::for_inputs_are_too_many))]
 fn are_too_many(inputs: &[Input], size: u64) -> bool
     requires { 1 ≤ size }
     ensures { result ≡ nat_lt 32768

@@ -5,6 +5,7 @@ ghost use Rattle.std.specs.List.{list_any};
 ghost use Rattle.par2_spec.specs.Names.{is_par_name};
 ghost use Rattle.par2_spec.specs.Folders.{has};
 ghost use Rattle.par2_spec.specs.Volumes as spec;
+ghost use Rattle.par2_spec.specs.Volumes.{five_digits};
 ghost use Rattle.par2_spec.specs.Answers.{FailsFor};
 ghost use Rattle.par2_create.specs.Faults.{existing, long_name};
 ghost use Rattle.par2_create.specs.Outputs.{volume_at, volumes_of, volume_names};
@@ -34,8 +35,7 @@ fn volumes_before(i: u32) -> u32
 
 // Appends a number as five digits.
 fn push_five_digits(string: &mut String, n: u32) -> Result<()>
-    ensures { OnOk result
-        (string_bytes string.new ≡ string_bytes string.old ++ spec.five_digits n) }
+    ensures { OnOk result (string_bytes string.new ≡ string_bytes string.old ++ five_digits n) }
 {
     for power in [10000, 1000, 100, 10, 1] {
         string.push(char::from(b'0' + (n / power % 10) as u8))?;
@@ -84,7 +84,7 @@ fn volume_at(alloc: Global, base: &Name, first: u32, count: u32, i: u32) -> Resu
 
 /// The volumes of a create with `count` recovery slices from exponent `first` on, in order. It returns `NameTooLong` if
 /// a volume's name would have more than 255 bytes.
-#[tactic(auto, using(crate::proofs::Steps::for_names_volumes))]
+#[tactic(auto, using(crate::proofs::Steps::names))]
 pub fn volumes(alloc: Global, base: &Name, first: u32, count: u32) -> Result<Vec<Volume>, Fault>
     requires base { IsTrue (is_par_name base.now) }
     requires exponents { first + count ≤ 65536 }

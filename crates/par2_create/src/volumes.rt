@@ -1,15 +1,14 @@
 //! The bytes of volumes. Their packets are laid out first, with zeros for recovery slices and MD5s. The recovery slices
 //! are computed in place, all at once, and the MD5s are filled in at the end.
+#![tactic(auto, using(crate::proofs::Steps::volumes))]
 
-ghost use Rattle.std.specs.Prelude.{◌≡◌, ◌≤◌, ◌+◌, length, map, IfOk, OnOk};
+ghost use Rattle.std.specs.Prelude.{◌≡◌, ◌+◌, length, map, IfOk, OnOk, ◌≤◌};
 ghost use Rattle.par2_spec.specs.Answers.{Appends};
 ghost use Rattle.par2_spec.specs.Sums.{lists_of};
-ghost use Rattle.par2_create.specs.Outputs.{volume_file_name};
-ghost use Rattle.par2_create.specs.Volumes.{AreFiles, AreBuffers, blank_volume, volume_exponents, length_with, places_in, places_of, with_slices};
+ghost use Rattle.par2_create.specs.Outputs.{volume_file_name, AreFiles, AreBuffers, blank_volume, volume_exponents, length_with, places_in, places_of, with_slices};
 
-use crate::index::Parts;
 use crate::names::Volume;
-use crate::sources::input_slices;
+use crate::records::{Parts, input_slices};
 use par2_files::Name;
 use par2_gf16::Gf;
 use par2_packets::{digest_recoveries, with_undigested};
@@ -29,20 +28,8 @@ fn volume_len(parts: &Parts, count: u32) -> usize {
         .saturating_add(parts.index.len())
 }
 
-// The bytes of a volume, the index and then its recovery packets, with zeros for their slices and MD5s.
-fn blank_volume(alloc: Global, parts: &Parts, volume: &Volume) -> Result<Vec<u8>>
-    requires { volume.now.first + volume.now.count ≤ 65536 }
-    ensures { IfOk result (λ bytes. bytes.items ≡ blank_volume parts.now volume.now) }
-{
-    let mut bytes = Vec::with_capacity(alloc, volume_len(parts, volume.count))?;
-    bytes.extend_from_slice(&parts.index)?;
-    let size = parts.set.slice as usize;
-    with_undigested(bytes, &parts.set_id, volume.first, volume.count, size)
-}
-
 // Appends the places of the recovery slices of volume `i`, from 0: buffer `i`, and the offset in bytes of each slice.
 // `bytes` is that buffer, which only the contract uses.
-#[tactic(auto, using(crate::proofs::Steps::for_volumes_append_places))]
 fn append_places(
     places: &mut Vec<Place>,
     parts: &Parts,
@@ -61,8 +48,18 @@ fn append_places(
     Ok(())
 }
 
+// The bytes of a volume, the index and then its recovery packets, with zeros for their slices and MD5s.
+fn blank_volume(alloc: Global, parts: &Parts, volume: &Volume) -> Result<Vec<u8>>
+    requires { volume.now.first + volume.now.count ≤ 65536 }
+    ensures { IfOk result (λ bytes. bytes.items ≡ blank_volume parts.now volume.now) }
+{
+    let mut bytes = Vec::with_capacity(alloc, volume_len(parts, volume.count))?;
+    bytes.extend_from_slice(&parts.index)?;
+    let size = parts.set.slice as usize;
+    with_undigested(bytes, &parts.set_id, volume.first, volume.count, size)
+}
+
 // The bytes of all volumes, each in a buffer of its own, with zeros for their recovery slices and MD5s.
-#[tactic(auto, using(crate::proofs::Steps::for_volumes_blank_volumes))]
 fn blank_volumes(alloc: Global, parts: &Parts) -> Result<Vec<Vec<u8>>>
     ensures { IfOk result (AreBuffers (blank_volume parts.now) parts.now.volumes.now) }
 {
@@ -75,7 +72,6 @@ fn blank_volumes(alloc: Global, parts: &Parts) -> Result<Vec<Vec<u8>>>
 }
 
 // The places of the recovery slices of all volumes, in order. `buffers` has the bytes of the volumes.
-#[tactic(auto, using(crate::proofs::Steps::for_volumes_places))]
 fn places(alloc: Global, parts: &Parts, buffers: &[Vec<u8>]) -> Result<Vec<Place>>
     requires { lists_of buffers.now ≡ map (blank_volume parts.now) parts.now.volumes.now }
     ensures { IfOk result (λ places. places.items ≡ places_of parts.now parts.now.volumes.now) }
@@ -99,7 +95,6 @@ fn exponents_of(alloc: Global, parts: &Parts) -> Result<Vec<u32>>
 }
 
 // Writes the recovery slices of all volumes at their places in `out`, the buffers of the volumes.
-#[tactic(auto, using(crate::proofs::Steps::for_volumes_write_slices))]
 fn write_slices(alloc: Global, parts: &Parts, out: &mut [Vec<u8>]) -> Result<()>
     requires { lists_of out.old ≡ map (blank_volume parts.now) parts.now.volumes.now }
     ensures { OnOk result (lists_of out.new ≡ map (with_slices parts.now) parts.now.volumes.now) }
@@ -123,7 +118,6 @@ fn digest_volume(alloc: Global, bytes: &mut [u8], parts: &Parts, volume: &Volume
 }
 
 // Takes the buffers of the volumes, fills in the MD5s, and returns the buffers with the names of the volumes.
-#[tactic(auto, using(crate::proofs::Steps::for_volumes_digested))]
 fn digested(
     alloc: Global,
     parts: &Parts,
@@ -143,7 +137,6 @@ fn digested(
 
 /// The volumes as files, in order: names with bytes. If there are none, no table of the field is made and no input is
 /// read.
-#[tactic(auto, using(crate::proofs::Steps::for_volumes_volume_files))]
 pub(crate) fn volume_files(alloc: Global, parts: &Parts) -> Result<Vec<(Name, Vec<u8>)>>
     ensures { IfOk result (AreFiles parts.now parts.now.volumes.now) }
 {

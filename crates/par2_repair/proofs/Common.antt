@@ -34,7 +34,7 @@ pub use Rattle.par2_repair.specs.ReportViews.{state_view, target_report_of}
 pub use Rattle.par2_repair.specs.Written.{bytes_written, buffers_written}
 pub use Rattle.par2_repair.specs.declared.restored_slices.Slice.{Slice}
 pub use Rattle.par2_solve.specs.Rebuilding.{AreEnough, AreRebuilt, IsTrueFault, exponents_of, known_alone, known_among, known_of, recovered_of, with_lost_slices}
-pub use Rattle.par2_sets.specs.Asides.{long_aside}
+pub use Rattle.par2_sets.specs.SetReading.{long_aside}
 pub use Rattle.par2_slices.specs.Matching.{Describe, NumbersAreNames, first_intact, matched_from, matched_numbers, listed_at, without_number}
 pub use Rattle.par2_slices.specs.Positions.{AreShort, Window, padded_window, padded_windows, buffers_of}
 pub use Rattle.par2_spec.proofs.AcceptedCommands.{command_leads, in_full, in_part, missing, set_in_reads}

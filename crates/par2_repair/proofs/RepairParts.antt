@@ -1,6 +1,6 @@
 -- The parts of a repair are those of the definitions.
 use Rattle.par2_repair.proofs.Common.{◌≡◌, ◌⊎◌, inl, inr, subst, ℕ, List, [], ◌∷◌, ◌++◌, length, map, refl, sym, ap, ap₂, ◌∙◌, Bool, true, false, not, cond, ◌&&◌, ◌||◌, ◌+◌, suc, arith, Ok, ◌==◌, Option, is_none, filter, filter_map, flat_map, None, Some, AllByRecursion, enumerate_from, list_any, bytes_eq, ne_eqb, or_right, and_parts, not-true, false_from_ne_true, is_incomplete, matching, matches, lost, survivors, candidates, incomplete_names, known, is_par_name, is_among, map-map, Change, Rename, Remove, Pair, first_fault, fault_where, Folder, bytes_of, has, now_at, repair_changes, repair_removals, is_repairable, rank, aside, put_aside, names_without_match, rebuilt, par_files, files_of_slices, is_par_file, rebuilt_targets, ParSet, Target, set_of, found, Fault, NotRepairable, all-append, filter-map, all-each, all-filter, lost_of, long_aside, undetermined_fault, targets_among, wrong_digest, AreRestored, IsWholeWhereMatched, matches_taken, writes, removed, renamed, place_in, BTreeMap, BTreeSet, contains, slice_cmp, nat_cmp, option_map, known_by, itself, among-filter, among_some, clash, repair_refusal}
-use Rattle.par2_sets.specs.Asides.{HoldsOwned}
+use Rattle.par2_sets.specs.SetReading.{HoldsOwned}
 use Rattle.par2_spec.specs.Packets.{accepted}
 use Rattle.par2_spec.specs.Folders.{names as names_in}
 use Rattle.par2_spec.proofs.RankLaws.{repairable-iff}

@@ -1,6 +1,6 @@
 -- Trees that are made of lists.
 use Rattle.par2_repair.proofs.Common.{◌≡◌, ◌∙◌, ◌||◌, ℕ, List, [], ◌∷◌, map, refl, ap, ap₂, Bool, true, false, cond, zip, None, Some, unwrap_or, list_any, BTreeMap, HasAsides, itself, clash, is_among, BTreeSet, IsFromIterResult, slice_cmp, nat_list_cmp_total, nat_cmp, eq_by_cmp}
-use Rattle.par2_sets.specs.Asides.{HoldsOwned}
+use Rattle.par2_sets.specs.SetReading.{HoldsOwned}
 use Rattle.std.specs.Cmp.{Equal-is, eq_by_cmp_equiv}
 use Rattle.std.proofs.lemmas.Map.Made.{update_all_pairs}
 use Rattle.std.specs.Map.{update_all}

@@ -2,12 +2,10 @@
 //! and `repair_changes` lists the renames, the writes and the removals.
 ghost use Rattle.std.specs.Prelude.{◌≡◌, ◌++◌, ℕ, List, Some, None, is_none, filter_map, if◌then◌else◌, IfOk, OnOk};
 ghost use Rattle.par2_spec.specs.Answers.{FailsFor, Lists};
-ghost use Rattle.par2_spec.specs.Repairs.{names_without_match};
-ghost use Rattle.par2_sets.specs.Asides.{HoldsOwned, long_aside};
+ghost use Rattle.par2_spec.specs.Repairs.{names_without_match, AreFew, rebuilt_targets};
+ghost use Rattle.par2_sets.specs.SetReading.{HoldsOwned, long_aside, own_files};
 ghost use Rattle.par2_repair.specs.Repairing.{AreMoves, HasAsides, matches_taken, names_there, place_in, removed, renamed, repair_by, writes};
 ghost use Rattle.par2_spec.specs.Folders.{Folder as Files};
-ghost use Rattle.par2_spec.specs.Repairs.{AreFew, rebuilt_targets};
-ghost use Rattle.par2_sets.specs.SetReading.{own_files};
 ghost use Rattle.par2_spec.specs.Search.{matches};
 
 use crate::Changes;

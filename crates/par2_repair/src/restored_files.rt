@@ -3,7 +3,7 @@ ghost use Rattle.std.specs.Prelude.{◌≡◌, ◌+◌, ◌≤◌, ℕ, List, le
 ghost use Rattle.std.specs.List.{AllByRecursion};
 ghost use Rattle.par2_spec.specs.Answers.{Appends, Lists};
 ghost use Rattle.par2_spec.specs.Sets.{all_pairs};
-ghost use Rattle.par2_sets.specs.Asides.{HoldsOwned};
+ghost use Rattle.par2_sets.specs.SetReading.{HoldsOwned};
 ghost use Rattle.par2_repair.specs.Restoring.{targets_among, chosen_at};
 
 use crate::restored_slices::RestoredSlices;

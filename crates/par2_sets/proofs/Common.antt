@@ -23,10 +23,7 @@ pub use Rattle.std.specs.Set.{distinct_count, is_member, unique_keys}
 pub use Rattle.std.specs.Str.{bytes_eq}
 pub use Rattle.std.specs.declared.cmp.Ordering.TheVariants.{Equal, Greater, Less}
 pub use Rattle.par2_packets.specs.PacketViews.{packet_view, remaining_packets}
-pub use Rattle.par2_sets.specs.Asides.{HoldsOwned, long_aside}
-pub use Rattle.par2_sets.specs.Firsts.{HasFirsts, HoldChecksums, HoldDescriptions, count_cmp, id_cmp}
-pub use Rattle.par2_sets.specs.SetViews.{entry_of, set_exponents, set_recovery, set_view, usable}
-pub use Rattle.par2_sets.specs.SetReading.{Returns, are_own, descriptions_of, has_own, own_files, packets_in, set_from_packets, set_packets, targets_or_fault}
+pub use Rattle.par2_sets.specs.SetReading.{HoldsOwned, long_aside, HasFirsts, HoldChecksums, HoldDescriptions, count_cmp, id_cmp, entry_of, set_exponents, set_recovery, set_view, usable, Returns, are_own, has_own, own_files, packets_in, set_from_packets, set_packets}
 pub use Rattle.par2_spec.proofs.ListsLaws.{filter_map-map}
 pub use Rattle.par2_spec.proofs.NameTests.{name_is_short, no_name}
 pub use Rattle.par2_spec.proofs.NamesLaws.{among-append, distinct_from_std, distinct_same, same_either_way, std_from_distinct}

@@ -1,8 +1,7 @@
 -- Maps that keep the first value of each key.
 use Rattle.par2_sets.proofs.Common.{◌≡◌, ℕ, ◌&&◌, ◌==◌, Bool, true, false, cond, List, [], ◌∷◌, ◌++◌, Option, Some, None, Result, Ok, Err, map, refl, sym, ap, ap₂, subst, ◌∙◌, arith, map-id, filter_map, find, option_map, option_and_then, is_some, IfOk, false≢true, IsTotalOrder, IsEquivalence, eq_by_cmp_equiv, cons_option, lookup, eq_by_cmp, is_eq, nat_cmp, ordering_then, bytes_eq, Less, Equal, Greater, same_either_way, id_cmp, count_cmp, HasFirsts, is_eq-slice_cmp, YieldsList}
-use Rattle.std.specs.BTreeMap.{BTreeMap, get}
+use Rattle.std.specs.BTreeMap.{BTreeMap, get, Updates}
 use Rattle.std.specs.declared.cmp.Ordering.{Ordering}
-use Rattle.std.specs.BTreeMap.{Updates}
 use Rattle.std.specs.Iterator.{Drains}
 use Rattle.std.specs.Option.{option_or}
 use Rattle.std.proofs.iter.Yields.{gives_Drains}

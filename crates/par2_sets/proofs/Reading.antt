@@ -1,5 +1,5 @@
 -- The steps of reading a set, one after the other.
-use Rattle.par2_sets.proofs.Common.{◌≡◌, ◌⊎◌, inl, inr, ℕ, List, true, Option, Some, None, Result, Ok, Err, ap, ◌∙◌, slice_get, option_map, ok_or, unwrap_or, is_some, IfOk, IfErr, false≢true, Fault, NoPackets, Memory, Folder, bytes_of, Packet, MainBody, DescBody, accepted, ParSet, Target, ◌>>=◌, is_slice_size, main_of, are_in_profile, recovery_of, IsSound, read_set, set_of, Bor, entries, set_recovery, set_view, Returns, set_packets, descriptions_of, targets_or_fault, set_from_packets}
+use Rattle.par2_sets.proofs.Common.{◌≡◌, ◌⊎◌, inl, inr, ℕ, List, true, Option, Some, None, Result, Ok, Err, ap, ◌∙◌, slice_get, option_map, ok_or, unwrap_or, is_some, IfOk, IfErr, false≢true, Fault, NoPackets, Memory, Folder, bytes_of, Packet, MainBody, DescBody, accepted, ParSet, Target, ◌>>=◌, is_slice_size, main_of, are_in_profile, recovery_of, IsSound, read_set, set_of, Bor, entries, set_recovery, set_view, Returns, set_packets, all_some, description_of, target_of, map, NoDescription, NoChecksums, set_from_packets}
 use Rattle.par2_sets.proofs.Exponents.{made_of}
 
 -- the identifier of the first packet of a base
@@ -23,7 +23,7 @@ answered whole step (Err fault) e h law = (elim h [ inl memory ↦ inl memory | 
 
 -- the set of some packets, after all of its parts were read
 pub all_read : (id : List ℕ) (packets : List Packet) (main : MainBody) (size : ℕ) (ds : List DescBody) (targets : List Target) (recovery : List (ℕ × Bor (List ℕ)))
-    → main_of id packets ≡ Some main → size ≡ main.slice_size → is_slice_size size ≡ true → descriptions_of packets main.ids ≡ Ok ds → are_in_profile size ds ≡ true
-    → targets_or_fault packets size ds ≡ Ok targets → set_recovery recovery ≡ entries (recovery_of packets size) → set_from_packets id packets ≡ Ok (set_view id size targets recovery)
+    → main_of id packets ≡ Some main → size ≡ main.slice_size → is_slice_size size ≡ true → ok_or (all_some (map (description_of packets) main.ids)) NoDescription ≡ Ok ds → are_in_profile size ds ≡ true
+    → ok_or (all_some (map (target_of packets size) ds)) NoChecksums ≡ Ok targets → set_recovery recovery ≡ entries (recovery_of packets size) → set_from_packets id packets ≡ Ok (set_view id size targets recovery)
 all_read id packets main size ds targets recovery has is sized described taken made recovered =
     rw (has, ← is, sized, described, taken, made, ← made_of recovery (recovery_of packets size) recovered)

@@ -1,4 +1,1 @@
-pub mod Firsts
 pub mod SetReading
-pub mod SetViews
-pub mod Asides

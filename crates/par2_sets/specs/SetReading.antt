@@ -1,15 +1,107 @@
--- The steps in which a set is read, each with its fault.
-use Rattle.std.specs.Prelude.{◌≡◌, ◌⊎◌, ℕ, ◌==◌, ◌&&◌, Bool, List, [], ◌∷◌, filter, map, flat_map, Some, Result, Ok, Err, ok_or, if◌then◌else◌}
+-- How a set is read: what was read as a set of the definitions, maps that keep the first value of each key, the steps with
+-- their faults, and the asides.
+use Rattle.std.specs.Prelude.{ℕ, ◌==◌, ◌&&◌, nat_lt, List, length, map, Option, Some, None, option_and_then, refl, if◌then◌else◌, ◌≡◌, option_map, ◌⊎◌, Bool, [], ◌∷◌, filter, flat_map, Result, Ok, Err, ok_or}
+use Rattle.std.specs.Coded.{Coded, code_by, coded×, coded_ℕ, coded_list}
+use Rattle.std.specs.Borrow.{Bor}
+use Rattle.std.specs.FinMap as map_of
+use Rattle.std.specs.FinMap.{FinMap, from_sorted}
+use Rattle.std.specs.Ordering.{nat_cmp, eq_by_cmp, ordering_then}
+use Rattle.par2_spec.specs.Checksums.{Pair}
+use Rattle.par2_spec.specs.Packets.{Packet, RecoveryBody, read_recovery, IfscBody, read_desc, DescBody, accepted}
+use Rattle.par2_spec.specs.Sets.{◌>>=◌, ParSet, Target, IsSound, description_of, pairs_of, unless, is_slice_size, main_of, all_some, packets_with, are_in_profile, target_of, recovery_of, other_par_names}
+use Rattle.std.specs.List.Sorted.{IsStrictlyIncreasing}
+use Rattle.std.specs.BTreeMap.{BTreeMap, get}
+use Rattle.std.specs.Cmp.Lexicographic.{slice_cmp}
+use Rattle.std.specs.Map.{lookup}
+use Rattle.std.specs.declared.cmp.Ordering.{Ordering}
+use Rattle.par2_packets.specs.declared.scan.Packet as scan
 use Rattle.std.specs.List.{list_all, list_any}
 use Rattle.std.specs.Str.{bytes_eq}
 use Rattle.par2_spec.specs.declared.Fault.{Fault}
-use Rattle.par2_spec.specs.declared.Fault.TheVariants.{NoMain, BadSet, NoDescription, NoChecksums, Memory}
-use Rattle.par2_spec.specs.Checksums.{Pair}
+use Rattle.par2_spec.specs.declared.Fault.TheVariants.{NoMain, BadSet, NoDescription, NoChecksums, Memory, NameTooLong}
 use Rattle.par2_spec.specs.Slices.{slice_count}
 use Rattle.par2_spec.specs.Folders.{Folder, bytes_of, names}
-use Rattle.par2_spec.specs.Names.{is_par_name}
-use Rattle.par2_spec.specs.Packets.{Packet, DescBody, accepted}
-use Rattle.par2_spec.specs.Sets.{ParSet, Target, ◌>>=◌, unless, is_slice_size, main_of, all_some, packets_with, are_in_profile, description_of, pairs_of, target_of, recovery_of, other_par_names}
+use Rattle.par2_spec.specs.Names.{is_par_name, is_among}
+use Rattle.std.specs.BTreeSet.{BTreeSet, contains}
+use Rattle.par2_spec.specs.Faults.{fault_where}
+use Rattle.par2_spec.specs.Repairs.{aside}
+
+-- an exponent with its recovery slice
+abbrev pub entry_of : ℕ × Bor (List ℕ) → ℕ × List ℕ
+entry_of r = (r.0, r.1.now)
+
+-- exponents with their recovery slices, as values
+abbrev pub set_recovery : List (ℕ × Bor (List ℕ)) → List (ℕ × List ℕ)
+set_recovery recovery = map entry_of recovery
+
+-- the exponents alone
+abbrev pub set_exponents : List (ℕ × Bor (List ℕ)) → List ℕ
+set_exponents recovery = map (λ r. r.0) (set_recovery recovery)
+
+-- the recovery slice of a packet, if its exponent is below 65,536 and its length is the slice size s (PAR2 2.0,
+-- Recovery Slice packet)
+abbrev pub usable : ℕ → Packet → Option RecoveryBody
+usable s p =
+    option_and_then (λ r. if nat_lt r.exponent 65536 && length r.bytes == s then Some r else None)
+    (read_recovery p.kind p.body)
+
+-- the set with these parts
+abbrev pub set_view : List ℕ → ℕ → List Target → List (ℕ × Bor (List ℕ)) → ParSet
+set_view id slice_size targets recovery = record {
+  id = id;
+  slice_size = slice_size;
+  targets = targets;
+  recovery = from_sorted (set_recovery recovery);
+}
+
+-- the parts of a set that was read: the exponents increase strictly, and the set is sound as `IsSound` says
+pub record IsReadSet (id : List ℕ) (slice_size : ℕ) (targets : List Target) (recovery : List (ℕ × Bor (List ℕ))) : Type 0 where
+  pub rising : IsStrictlyIncreasing (set_exponents recovery)
+  pub sound : IsSound (set_view id slice_size targets recovery)
+
+-- bytes
+abbrev pub bytes_code : Coded (List ℕ)
+bytes_code = coded_list coded_ℕ
+
+-- a target, by its fields
+abbrev pub target_code : Coded Target
+target_code =
+    code_by (List ℕ × (ℕ × (List ℕ × List Pair)))
+    (coded× bytes_code (coded× coded_ℕ (coded× bytes_code (coded_list (coded× bytes_code coded_ℕ)))))
+    (λ t. (t.name, (t.length, (t.md5, t.pairs))))
+    (λ p. record { name = p.0; length = p.1.0; md5 = p.1.1.0; pairs = p.1.1.1 })
+    (λ _. refl)
+
+-- a set, by its fields
+abbrev pub set_code : Coded ParSet
+set_code =
+    code_by (List ℕ × (ℕ × (List Target × FinMap nat_cmp (List ℕ))))
+    (coded× bytes_code (coded× coded_ℕ (coded× (coded_list target_code) (map_of.code coded_ℕ bytes_code))))
+    (λ s. (s.id, (s.slice_size, (s.targets, s.recovery))))
+    (λ p. record { id = p.0; slice_size = p.1.0; targets = p.1.1.0; recovery = p.1.1.1 })
+    (λ _. refl)
+
+-- the order of File IDs
+abbrev pub id_cmp : List ℕ → List ℕ → Ordering
+id_cmp = slice_cmp nat_cmp
+
+-- the order of File IDs with numbers of slices
+abbrev pub count_cmp : List ℕ × ℕ → List ℕ × ℕ → Ordering
+count_cmp a b = ordering_then (id_cmp a.0 b.0) (nat_cmp a.1 b.1)
+
+-- the map has the first value of each key of the entries, and no other keys
+abbrev pub HasFirsts : {K X : Type 0} → (K → K → Ordering) → List (K × X) → BTreeMap K X → Type 0
+HasFirsts {K} R entries firsts = (key : K) → get R firsts key ≡ lookup (eq_by_cmp R key) entries
+
+-- the map has the packet of the first description of each File ID
+abbrev pub HoldDescriptions : List Packet → BTreeMap (List ℕ) scan.Packet → Type 0
+HoldDescriptions packets firsts =
+    (id : List ℕ) → option_and_then (λ p. read_desc p.kind p.body.now) (get id_cmp firsts id) ≡ description_of packets id
+
+-- the map has the first checksums of each File ID with each number of slices
+abbrev pub HoldChecksums : List Packet → BTreeMap (List ℕ × ℕ) IfscBody → Type 0
+HoldChecksums packets firsts =
+    (id : List ℕ) (n : ℕ) → option_map (λ c. c.pairs) (get count_cmp firsts (id, n)) ≡ pairs_of packets id n
 
 -- a call returns the value of its step, or the step's fault, or that memory ran out
 abbrev pub Returns : {X Y : Type 0} → (X → Y) → Result X Fault → Result Y Fault → Type 0
@@ -37,29 +129,25 @@ has_own folder id name = are_own id (accepted (bytes_of folder name))
 abbrev pub own_files : Folder → List ℕ → List (List ℕ)
 own_files folder id = filter (has_own folder id) (filter is_par_name (names folder))
 
--- the descriptions of the files with these File IDs, or the fault that one has none
-abbrev pub descriptions_of : List Packet → List (List ℕ) → Result (List DescBody) Fault
-descriptions_of packets ids = ok_or (all_some (map (description_of packets) ids)) NoDescription
-
 -- the checksums of a file's slices of s bytes, or the fault that there are none
 abbrev pub checksums_for : List Packet → ℕ → DescBody → Result (List Pair) Fault
 checksums_for packets s d =
     ok_or (if d.length == 0 then Some [] else pairs_of packets d.id (slice_count s d.length)) NoChecksums
-
--- the target of a description for slices of s bytes, or the fault that it has no checksums
-abbrev pub target_or_fault : List Packet → ℕ → DescBody → Result Target Fault
-target_or_fault packets s d = ok_or (target_of packets s d) NoChecksums
-
--- the targets of these descriptions, or the fault that one has no checksums
-abbrev pub targets_or_fault : List Packet → ℕ → List DescBody → Result (List Target) Fault
-targets_or_fault packets s ds = ok_or (all_some (map (target_of packets s) ds)) NoChecksums
 
 -- the set of these packets, which have its identifier, or the fault of the first step that fails
 abbrev pub set_from_packets : List ℕ → List Packet → Result ParSet Fault
 set_from_packets id packets = do
   main ← ok_or (main_of id packets) NoMain
   right_size ← unless (is_slice_size main.slice_size) BadSet
-  described ← descriptions_of packets main.ids
+  described ← ok_or (all_some (map (description_of packets) main.ids)) NoDescription
   in_profile ← unless (are_in_profile main.slice_size described) BadSet
-  targets ← targets_or_fault packets main.slice_size described
+  targets ← ok_or (all_some (map (target_of packets main.slice_size) described)) NoChecksums
   Ok (record { id = id; slice_size = main.slice_size; targets = targets; recovery = recovery_of packets main.slice_size })
+
+-- the refusal if the aside of one of these names is longer than a name may be
+abbrev pub long_aside : Folder → ParSet → List (List ℕ) → Option Fault
+long_aside folder set names = fault_where (list_any (λ name. nat_lt 255 (length (aside folder set name))) names) NameTooLong
+
+-- the tree, which owns its names, has exactly these names
+abbrev pub HoldsOwned : BTreeSet (List ℕ) → List (List ℕ) → Type 0
+HoldsOwned tree names = (name : List ℕ) → contains (slice_cmp nat_cmp) tree name ≡ is_among names name

@@ -5,10 +5,7 @@
 
 mod listing;
 mod packets;
-mod parts;
 mod set;
-mod targets;
 
 pub use listing::{asides, par_files};
-pub use set::{ParSet, ReadSet, set_of};
-pub use targets::Target;
+pub use set::{ParSet, ReadSet, Target, set_of};

@@ -5,8 +5,7 @@ ghost use Rattle.std.specs.Prelude.{◌≡◌, ℕ, List, IfOk, ◌⊎◌, ◌<�
 ghost use Rattle.par2_spec.specs.Answers.{Lists, FailsFor};
 ghost use Rattle.par2_spec.specs.Names.{is_among};
 ghost use Rattle.par2_spec.specs.Sets.{target_names};
-ghost use Rattle.par2_sets.specs.Asides.{HoldsOwned, long_aside};
-ghost use Rattle.par2_sets.specs.SetReading.{own_files};
+ghost use Rattle.par2_sets.specs.SetReading.{HoldsOwned, long_aside, own_files};
 ghost use Rattle.par2_spec.specs.Repairs.{aside, AreFew, taken_for};
 ghost use Rattle.par2_spec.specs.Repairs as repairs;
 ghost use Rattle.par2_spec.specs.Folders as folders;

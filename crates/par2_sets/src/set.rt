@@ -1,27 +1,166 @@
-//! The set of a base: `set_of` takes the Recovery Set ID of the base's first packet, collects the packets with this ID,
-//! and reads the set from them.
+//! The set of a base, and its targets: the files that it describes. `set_of` takes the Recovery Set ID of the base's
+//! first packet, collects the packets with this ID, and reads the set from them.
 
-ghost use Rattle.std.specs.Prelude.{◌≡◌, ◌⊎◌, length, map, Ok, Err, IfOk, IfErr};
-ghost use Rattle.std.specs.List.{AllByRecursion};
+ghost use Rattle.std.specs.Prelude.{◌≡◌, ◌≤◌, List, map, ◌==◌, nat_le, length, sum_by, ok_or, IfOk, IsTrue, Ok, Err};
+ghost use Rattle.par2_packets.specs.PacketViews.{packet_view};
+ghost use Rattle.par2_sets.specs.SetReading.{HoldChecksums, Returns, own_files, set_from_packets, set_recovery, set_exponents};
+ghost use Rattle.std.specs.List.{list_all, AllByRecursion};
+ghost use Rattle.par2_spec.specs.Names.{distinct, is_name};
+ghost use Rattle.par2_spec.specs.Sets.{all_some, are_in_profile, target_of, IsSound};
+ghost use Rattle.par2_spec.specs.Slices.{slice_count};
+ghost use Rattle.par2_spec.specs.Packets as spec;
 ghost use Rattle.std.specs.List.Sorted.{IsStrictlyIncreasing};
 ghost use Rattle.std.specs.FinMap.{entries};
 ghost use Rattle.par2_spec.specs.Sets as sets;
-ghost use Rattle.par2_spec.specs.Sets.{IsSound};
-ghost use Rattle.par2_packets.specs.PacketViews.{packet_view};
-ghost use Rattle.par2_sets.specs.SetViews.{set_recovery, set_exponents};
-ghost use Rattle.par2_sets.specs.SetReading.{Returns, own_files, set_from_packets};
+ghost use Rattle.par2_spec.specs.Planned.{FailsIn};
 
-use crate::Target;
-use crate::packets::packets_of;
-use crate::parts::{descriptions, main_of, recovery_of};
-use crate::targets::{are_in_profile, targets_of};
+use crate::packets::{
+    Checksums, checksums_in, descriptions, main_of, packets_of, pairs_for, recovery_of,
+};
 use par2_files::{Folder, Name};
-use par2_packets::{Packet, Packets};
-use par2_slices::is_slice_size;
-use par2_spec::Fault;
+use par2_packets::{DescView, Packet, Packets, Pair};
+use par2_slices::{MOST_SLICES, is_slice_size, slice_count};
 use par2_spec::search_laws::set_is_sound;
+use par2_spec::{Fault, Result};
 use std::alloc::Global;
+use std::collections::BTreeSet;
 use std::marker::Model;
+
+/// A file that a set describes.
+#[derive(Drop)]
+pub struct Target {
+    name: Name,
+    length: u64,
+    md5: [u8; 16],
+    pairs: Vec<Pair>,
+}
+
+impl Model for Target {
+    ghost use Rattle.par2_spec.specs.Sets.{Target as Described};
+
+    ghost Value = { Described };
+
+    ghost view = { λ t.
+        record { name = t.name; length = t.length; md5 = t.md5; pairs = t.pairs.items } };
+}
+
+impl Target {
+    /// The name that the set has for the file.
+    pub fn name(&self) -> &Name
+        ensures { result.now ≡ self.now.name }
+    {
+        &self.name
+    }
+
+    /// How many bytes the file has.
+    pub fn length(&self) -> u64
+        ensures { result ≡ self.now.length }
+    {
+        self.length
+    }
+
+    /// The MD5 of the file, with which a repair compares the files that it writes.
+    pub fn md5(&self) -> [u8; 16]
+        ensures { result ≡ self.now.md5 }
+    {
+        self.md5
+    }
+
+    /// The checksums of its slices, in order.
+    pub fn pairs(&self) -> &[Pair]
+        ensures { result.now ≡ self.now.pairs }
+    {
+        &self.pairs
+    }
+}
+
+// The target of a description, with the checksums of its slices of `s` bytes. It returns `NoChecksums` if there are
+// none.
+fn target_of(
+    alloc: Global,
+    checksums: &Checksums,
+    s: u64,
+    description: &DescView,
+) -> Result<Target, Fault>
+    requires size { 1 ≤ s }
+    requires name { IsTrue (is_name description.now.name) }
+    ensures { (packets : List spec.Packet) → HoldChecksums packets checksums.now →
+        Returns (λ t. t) result (ok_or (target_of packets s description.now) Fault.NoChecksums) }
+{
+    let Some(name) = Name::from_bytes(description.name_bytes()) else {
+        unreachable!()
+    };
+    Ok(Target {
+        name,
+        length: description.length(),
+        md5: description.md5(),
+        pairs: pairs_for(alloc, checksums, s, description)?,
+    })
+}
+
+// The targets of the descriptions, in order, with slices of `s` bytes. It returns `NoChecksums` if a target has none.
+pub(crate) fn targets_of(
+    alloc: Global,
+    packets: &[Packet],
+    s: u64,
+    descriptions: &[DescView],
+) -> Result<Vec<Target>, Fault>
+    requires size { 1 ≤ s }
+    requires names { IsTrue (list_all (λ d. is_name d.name) descriptions.now) }
+    ensures { let all = map (target_of (map packet_view packets.now) s) descriptions.now in
+        Returns (λ ts. ts.items) result (ok_or (all_some all) Fault.NoChecksums) }
+{
+    let checksums = checksums_in(alloc, packets)?;
+    let mut targets = Vec::new(alloc);
+    for description in descriptions {
+        targets.push(target_of(alloc, &checksums, s, description)?)?;
+    }
+    Ok(targets)
+}
+
+// Whether the files have no more than 32,768 slices of `s` bytes, as many as there are constants for slices.
+fn have_few_slices(s: u64, descriptions: &[DescView]) -> bool
+    requires { 1 ≤ s }
+    ensures { result ≡ nat_le (sum_by (λ d. slice_count s d.length) descriptions.now) 32768 }
+{
+    let mut left = MOST_SLICES;
+    for description in descriptions {
+        let count = slice_count(description.length(), s);
+        if count > left {
+            return false;
+        }
+        left -= count;
+    }
+    true
+}
+
+// Whether each described name is one that a file of a folder can have.
+fn have_names(descriptions: &[DescView]) -> bool
+    ensures { result ≡ list_all (λ d. is_name d.name) descriptions.now }
+{
+    descriptions.iter().all(|description| Name::from_bytes(description.name_bytes()).is_some())
+}
+
+// Whether no two described names are equal.
+fn are_distinct(alloc: Global, descriptions: &[DescView]) -> Result<bool>
+    ensures { let names = map (λ d. d.name) descriptions.now in
+        IfOk result (λ b. b ≡ (length (distinct names) == length descriptions.now)) }
+{
+    let names = descriptions.iter().map(|described| described.name_bytes());
+    let distinct = names.collect::<BTreeSet<&[u8]>>(alloc)?;
+    Ok(distinct.len() == descriptions.len())
+}
+
+// Whether the files are in the profile: at most 32,768 slices of `s` bytes, and valid, distinct names.
+pub(crate) fn are_in_profile(alloc: Global, s: u64, descriptions: &[DescView]) -> Result<bool>
+    requires { 1 ≤ s }
+    ensures { IfOk result (λ b. b ≡ are_in_profile s descriptions.now) }
+{
+    if !have_few_slices(s, descriptions) || !have_names(descriptions) {
+        return Ok(false);
+    }
+    are_distinct(alloc, descriptions)
+}
 
 /// The set of a base. Its recovery slices borrow from the folder. `IsReadSet`: the exponents increase, and the set is
 /// sound, as `IsSound` of `par2_spec` defines it.
@@ -35,8 +174,8 @@ pub struct ParSet<'a> {
 
 impl<'a> Model for ParSet<'a> {
     ghost use Rattle.par2_spec.specs.Sets as sets;
-    ghost use Rattle.par2_sets.specs.SetViews.{set_code};
-    ghost use Rattle.par2_sets.specs.SetViews.{IsReadSet, set_view};
+    ghost use Rattle.par2_sets.specs.SetReading.{set_code};
+    ghost use Rattle.par2_sets.specs.SetReading.{IsReadSet, set_view};
 
     ghost Value = { sets.ParSet };
 
@@ -123,12 +262,10 @@ pub struct ReadSet<'a> {
 /// base that isn't in the folder has no packets.
 #[tactic(auto, unfolding(par2_spec::specs::Sets::set_of, par2_spec::specs::Sets::read_set))]
 pub fn set_of<'a>(alloc: Global, folder: &'a Folder, base: &Name) -> Result<ReadSet<'a>, Fault>
-    ensures refused { let read = sets.set_of folder.now.files base.now in
-        IfErr result (λ fault. (fault ≡ Fault.Memory) ⊎ (read ≡ Err fault)) }
+    ensures refused { FailsIn (sets.set_of folder.now.files base.now) result }
     ensures read { IfOk result (λ read. sets.set_of folder.now.files base.now ≡ Ok read.set) }
     ensures sound { IfOk result (λ read. IsSound read.set) }
-    ensures own { IfOk result
-        (λ read. read.own_files.items ≡ own_files folder.now.files read.set.id) }
+    ensures own { IfOk result (λ r. r.own_files.items ≡ own_files folder.now.files r.set.id) }
 {
     // For the prover: the set is sound.
     set_is_sound();

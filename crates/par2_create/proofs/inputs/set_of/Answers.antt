@@ -1,5 +1,5 @@
 use Rattle.par2_create.proofs.Common.{inr, refl, subst, sym, map, input_file, IsDistinct, bytes_eq, false≢true}
-use Rattle.par2_create.proofs.Ids.{ids_accepted, ids_refused, ids_said}
+use Rattle.par2_create.proofs.FileRecords.{ids_accepted, ids_refused, ids_said}
 use Rattle.par2_create.proofs.inputs.set_of.Goals as goal
 
 pub returns-in-Ok-clause-accepted : goal.returns-in-Ok-clause-accepted

@@ -3,7 +3,7 @@ use Rattle.std.specs.Borrow.{Bor}
 use Rattle.par2_create.proofs.VolumePlaces.{places_apart, places_within, volumes_written}
 use Rattle.par2_create.specs.Records.{slices_of_records}
 use Rattle.par2_packets.specs.declared.record.FileRecord.{FileRecord}
-use Rattle.par2_create.specs.declared.index.Parts.{Parts}
+use Rattle.par2_create.specs.declared.records.Parts.{Parts}
 use Rattle.par2_create.specs.Outputs.{inputs_of}
 use Rattle.par2_create.proofs.volumes.write_slices.Goals as goal
 

@@ -1,5 +1,5 @@
 use Rattle.par2_repair.proofs.Common.{◌≡◌, ◌+◌, ◌++◌, ℕ, List, length, drop, flat_map}
-use Rattle.par2_sets.specs.Asides.{HoldsOwned}
+use Rattle.par2_sets.specs.SetReading.{HoldsOwned}
 use Rattle.par2_repair.proofs.TargetWalks.{among}
 use Rattle.par2_repair.proofs.restored_files.restored_files.Given as goal
 

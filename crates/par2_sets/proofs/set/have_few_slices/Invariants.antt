@@ -1,0 +1,6 @@
+use Rattle.par2_sets.proofs.Common.{◌≡◌, ◌+◌, take, sum_by}
+use Rattle.par2_spec.specs.Slices.{slice_count}
+use Rattle.par2_sets.proofs.set.have_few_slices.Given as goal
+
+abbrev pub invariant-loop-description : goal.invariant-loop-description
+invariant-loop-description l = l.left + sum_by (λ d. slice_count l.s d.length) (take l.description-index l.descriptions) ≡ 32768
