@@ -1,6 +1,6 @@
 -- Permissions that are within others.
 use Rattle.par2_disk.proofs.Common.{◌≡◌, ◌∙◌, ℕ, zero, suc, List, ◌⊎◌, inl, inr, ap, arith, refl, sym}
-use Rattle.std.proofs.lemmas.List.Elements.{All-weaker}
+use Rattle.std.proofs.lemmas.List.Elements.{All-more, All-nil, All-weaker}
 use Rattle.std.proofs.lemmas.Nat.{and_assoc, and_comm}
 use Rattle.std.specs.Int.Bits.{bit_and, and_self, and_zero_r}
 use Rattle.par2_disk.specs.Modes.{GivesNoMore, IsWithinThoseNamed}
@@ -38,3 +38,6 @@ module _ (permissions mask left test : ℕ) (closed : test ≡ 0 → left ≡ bi
 pub narrower : (files : List (List ℕ × ℕ)) (name : List ℕ) (mode other : ℕ) → GivesNoMore mode other → IsWithinThoseNamed files name other → IsWithinThoseNamed files name mode
 narrower files name mode other within held = All-weaker (λ (file : List ℕ × ℕ). file.0 ≡ name → GivesNoMore other file.1) (λ (file : List ℕ × ℕ). file.0 ≡ name → GivesNoMore mode file.1)
     (λ file had named. within_on _ _ _ within (had named)) files held
+
+-- what the functions on modes are proved by
+pub ruleset permissions = (within_first, within_second, within_on, apart_second, apart_within, limited, unlimited, narrower, All-more, All-nil)

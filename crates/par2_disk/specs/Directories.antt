@@ -11,7 +11,7 @@ use Rattle.par2_disk.specs.declared.directory.Location.{Location}
 use Rattle.par2_disk.specs.declared.directory.Location.TheVariants as location
 use Rattle.par2_disk.specs.declared.directory.Found.{Found}
 use Rattle.par2_disk.specs.declared.directory.Found.TheVariants as found
-use Rattle.par2_disk.specs.declared.stamp.Stamp.{Stamp}
+use Rattle.par2_disk.specs.declared.reading.Stamp.{Stamp}
 use Rattle.par2_disk.specs.declared.store.ReadFault.{ReadFault}
 use Rattle.par2_disk.specs.declared.store.ReadFault.TheVariants.{Store}
 use Rattle.par2_disk.specs.declared.store.StoreFault.{StoreFault}
@@ -114,12 +114,7 @@ pub record WritesTemporary (old new : DirectoryState) (bytes : List ℕ) (result
 
 -- its bytes are synced, and so durable (fsync of the file)
 pub record KeepsTemporary (old new : DirectoryState) (result : Result (Unit {0}) StoreFault) : Type 0 where
-  pub honest : old.honest → new.honest
-  pub alone : old.alone → new.alone
-  pub contents : old.honest → new.contents ≡ old.contents
-  pub temporary : old.honest → new.temporary ≡ old.temporary
-  pub barred : old.honest → NoMore old.barred new.barred
-  pub remains : old.honest → NoMore old.crash_states new.crash_states
+  pub stays : Stays old new
   pub kept : old.honest → OnOk result (AreKept new.temporary_crash_states new.temporary)
   pub failures : CountsCalls old.failures new.failures result
 
@@ -166,9 +161,6 @@ MovesFile state old new change result = Moves (state old) (state new) (CanMake (
 
 -- the names are synced, and so durable (fsync of the directory)
 pub record KeepsNames (old new : DirectoryState) (result : Result (Unit {0}) StoreFault) : Type 0 where
-  pub honest : old.honest → new.honest
-  pub alone : old.alone → new.alone
-  pub contents : old.honest → new.contents ≡ old.contents
-  pub remains : old.honest → NoMore old.crash_states new.crash_states
+  pub stays : Stays old new
   pub durable : old.honest → OnOk result (IsDurable new.crash_states new.contents)
   pub failures : CountsCalls old.failures new.failures result

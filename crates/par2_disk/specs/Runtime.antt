@@ -12,7 +12,7 @@ use Rattle.par2_spec.specs.Names.{is_name}
 use Rattle.par2_disk.specs.declared.directory.Found.{Found}
 use Rattle.par2_disk.specs.declared.directory.Found.TheVariants as found
 use Rattle.par2_disk.specs.declared.entry.Entry.{Ghosts as EntryOf}
-use Rattle.par2_disk.specs.declared.stamp.Stamp.{Stamp}
+use Rattle.par2_disk.specs.declared.reading.Stamp.{Stamp}
 use Rattle.par2_disk.specs.declared.store.ReadFault.{ReadFault}
 use Rattle.par2_disk.specs.declared.store.ReadFault.TheVariants.{Memory, Store}
 

@@ -8,8 +8,7 @@ ghost use Rattle.par2_disk.specs.Stores.{CountsFailures};
 use crate::directory::{Directory, Found, Location};
 use crate::listing::names_listed;
 use crate::modes::Modes;
-use crate::reading::{read_opened, sync_opened, written_to};
-use crate::stamp::{Stamp, stamp_by};
+use crate::reading::{Stamp, read_within, stamp_by, sync_opened, written_to};
 use crate::{Count, ReadFault, StoreFault};
 use par2_files::Name;
 use std::alloc::Global;
@@ -17,6 +16,9 @@ use std::fs::{File, Files, Metadata, TryLockError};
 use std::io::{Error, ErrorKind};
 use std::os::unix::fs::{OpenOptionsExt, PermissionsExt};
 use std::{fs, io};
+
+// The most reads of a file: if it hasn't ended by then, reading it fails.
+const READS: u64 = 1 << 32;
 
 /// The current directory, accessed by the runtime. Nothing is promised of its contents, so each method is one or a
 /// few calls of the runtime, and functions with contracts interpret the results.
@@ -62,7 +64,7 @@ fn found_of(answer: io::Result<Metadata>) -> Result<Found, StoreFault>
 }
 
 // Reads the opened file of a location to its end, notes its mode in `modes`, and returns its bytes and its stamp.
-// `size` is a hint.
+// `size` is a hint. `IsReportedAs`: the fault is Memory exactly for an error of kind OutOfMemory.
 fn read_noted(
     opened: io::Result<File>,
     modes: &mut Modes,
@@ -72,10 +74,10 @@ fn read_noted(
 ) -> Result<(Vec<u8>, Stamp), ReadFault>
     ensures { IfErr opened (λ error. IsErrAnd result (IsReportedAs error)) }
 {
-    let file = opened?;
+    let mut file = opened?;
     let metadata = file.metadata()?;
     modes.note_at(location, metadata.permissions().mode())?;
-    let bytes = read_opened(Ok(file), alloc, size)?;
+    let bytes = read_within(&mut file, alloc, size as usize, READS)?;
     Ok((bytes, Stamp::new(&metadata)))
 }
 
@@ -111,21 +113,29 @@ impl<'r, R: Files<File = File> + AllocGlobal> CurrentDirectory<'r, R> {
     }
 
     // Opens the directory itself with a shared lock, for `share`. It fails if a run that writes has the lock.
-    fn shared(&self) -> io::Result<File> {
+    fn open_shared(&mut self) -> io::Result<()>
+        ensures { self.new ≡ record self.old { folder = self.new.folder } }
+    {
         let folder = fs::open(self.rt, ".")?;
         unless_locked(folder.try_lock_shared())?;
-        Ok(folder)
+        self.folder = Some(folder);
+        Ok(())
     }
 
-    // Locks the directory itself alone, for `hold_alone`; `opened` is the directory if it is open already, maybe with a
-    // shared lock. If that fails, it is closed, and no lock is left.
-    fn locked_alone(&self, opened: Option<File>) -> io::Result<File> {
-        let folder = match opened {
+    // Locks the directory itself alone, for `hold_alone`; it may be open already, with a shared lock. If that fails, it
+    // is closed, and no lock is left.
+    fn lock_alone(&mut self) -> io::Result<()>
+        ensures alone { IsOk result → IsTrue self.new.is_alone }
+        ensures failures { self.new.failures ≡ self.old.failures }
+    {
+        let folder = match self.folder.take() {
             Some(folder) => folder,
             None => fs::open(self.rt, ".")?,
         };
         unless_locked(folder.try_lock())?;
-        Ok(folder)
+        self.folder = Some(folder);
+        self.is_alone = true;
+        Ok(())
     }
 
     // The last step of a call that locks, writes or syncs: counts a failure, for contracts only, if it returned an error.
@@ -135,13 +145,10 @@ impl<'r, R: Files<File = File> + AllocGlobal> CurrentDirectory<'r, R> {
         ensures failures { CountsFailures (λ it. it.failures.count) self.old self.new result }
         ensures rest { self.new ≡ record self.old { failures = self.new.failures } }
     {
-        match answer {
-            Ok(()) => Ok(()),
-            Err(_) => {
-                self.failures.rise();
-                Err(StoreFault)
-            }
+        if answer.is_err() {
+            self.failures.rise();
         }
+        answer.or(Err(StoreFault))
     }
 
     // Creates the temporary file with a mode, for `write_temporary`. A temporary file that a stop left is removed and
@@ -157,23 +164,19 @@ impl<'r, R: Files<File = File> + AllocGlobal> CurrentDirectory<'r, R> {
         }
     }
 
-    // Renames the temporary file to a path that nothing has, for directories without links. Another file may get the
-    // path between the check and the rename.
-    fn rename_to_free(&self, path: &str) -> io::Result<()> {
-        match fs::symlink_metadata(self.rt, path) {
-            Ok(_) => Err(Error::from(ErrorKind::AlreadyExists)),
-            Err(error) if error.kind() == ErrorKind::NotFound => {
-                fs::rename(self.rt, Location::Temporary.path(), path)
-            }
-            Err(error) => Err(error),
-        }
-    }
-
-    // Moves the temporary file to a path that nothing has, by a link, which fails if something has the path.
-    fn linked_to_free(&self, path: &str) -> io::Result<()> {
-        match fs::hard_link(self.rt, Location::Temporary.path(), path) {
-            Ok(()) => fs::remove_file(self.rt, Location::Temporary.path()),
-            Err(error) if has_no_links(&error) => self.rename_to_free(path),
+    // Moves the temporary file to a path that nothing has, by a link, which fails if something has the path. Without
+    // links it is renamed, and another file may get the path between the check and the rename.
+    fn move_to_free(&self, path: &str) -> io::Result<()> {
+        let temporary = Location::Temporary.path();
+        match fs::hard_link(self.rt, temporary, path) {
+            Ok(()) => fs::remove_file(self.rt, temporary),
+            Err(error) if has_no_links(&error) => match fs::symlink_metadata(self.rt, path) {
+                Ok(_) => Err(Error::from(ErrorKind::AlreadyExists)),
+                Err(error) if error.kind() == ErrorKind::NotFound => {
+                    fs::rename(self.rt, temporary, path)
+                }
+                Err(error) => Err(error),
+            },
             Err(error) => Err(error),
         }
     }
@@ -200,14 +203,10 @@ impl<'r, R: Files<File = File> + AllocGlobal> Directory for CurrentDirectory<'r,
         if self.folder.is_some() {
             return Ok(());
         }
-        match self.shared() {
-            Ok(folder) => {
-                self.folder = Some(folder);
-                Ok(())
-            }
+        match self.open_shared() {
             // A directory without read permission can't be opened. Its files can be read, but it can't be written.
             Err(error) if error.kind() == ErrorKind::PermissionDenied => Ok(()),
-            Err(in_use) => self.counted(Err(in_use)),
+            answer => self.counted(answer),
         }
     }
 
@@ -216,15 +215,8 @@ impl<'r, R: Files<File = File> + AllocGlobal> Directory for CurrentDirectory<'r,
         if self.is_alone {
             return Ok(());
         }
-        let opened = self.folder.take();
-        match self.locked_alone(opened) {
-            Ok(folder) => {
-                self.folder = Some(folder);
-                self.is_alone = true;
-                Ok(())
-            }
-            Err(refused) => self.counted(Err(refused)),
-        }
+        let answer = self.lock_alone();
+        self.counted(answer)
     }
 
     fn look_at_journal(&mut self) -> Result<Option<Stamp>, StoreFault> {
@@ -269,27 +261,22 @@ impl<'r, R: Files<File = File> + AllocGlobal> Directory for CurrentDirectory<'r,
     }
 
     fn put_temporary(&mut self, location: Location<'_>) -> Result<(), StoreFault> {
-        let answer = fs::rename(self.rt, Location::Temporary.path(), location.path());
-        self.counted(answer)
+        self.counted(fs::rename(self.rt, Location::Temporary.path(), location.path()))
     }
 
     fn name_temporary(&mut self, location: Location<'_>) -> Result<(), StoreFault> {
-        let answer = self.linked_to_free(location.path());
-        self.counted(answer)
+        self.counted(self.move_to_free(location.path()))
     }
 
     fn rename(&mut self, from: &Name, to: &Name) -> Result<(), StoreFault> {
-        let answer = fs::rename(self.rt, from.as_str(), to.as_str());
-        self.counted(answer)
+        self.counted(fs::rename(self.rt, from.as_str(), to.as_str()))
     }
 
     fn remove(&mut self, name: &Name) -> Result<(), StoreFault> {
-        let answer = fs::remove_file(self.rt, name.as_str());
-        self.counted(answer)
+        self.counted(fs::remove_file(self.rt, name.as_str()))
     }
 
     fn sync(&mut self) -> Result<(), StoreFault> {
-        let answer = sync_opened(fs::open(self.rt, "."));
-        self.counted(answer)
+        self.counted(sync_opened(fs::open(self.rt, ".")))
     }
 }

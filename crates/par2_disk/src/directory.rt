@@ -5,7 +5,7 @@ ghost use Rattle.par2_spec.specs.Changes.{Remove, Rename};
 ghost use Rattle.par2_disk.specs.Directories.{path_of, AddsTemporary, DirectoryState, Finds, KeepsNames, KeepsTemporary, ListsNames, LooksAtJournal, MovesFile, PutsTemporary, ReadsAt, Stays, WritesTemporary};
 ghost use Rattle.par2_disk.specs.Stores.{CountsFailures};
 
-use crate::stamp::Stamp;
+use crate::reading::Stamp;
 use crate::{ReadFault, StoreFault};
 use par2_files::Name;
 use std::alloc::Global;

@@ -8,7 +8,7 @@ ghost use Rattle.par2_disk.specs.Stores.{CountsFailures, CountsReadFailures, Rea
 
 use crate::current::CurrentDirectory;
 use crate::directory::{Directory, Found, Location};
-use crate::stamp::Stamp;
+use crate::reading::Stamp;
 use crate::{Count, FolderStore, ReadFault, Store, StoreFault};
 use par2_files::Name;
 use std::alloc::Global;

@@ -11,7 +11,6 @@ mod entry;
 mod listing;
 mod modes;
 mod reading;
-mod stamp;
 mod store;
 mod view;
 

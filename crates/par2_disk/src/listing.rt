@@ -1,26 +1,28 @@
 //! The names of the files of a directory, from its listing: `names_listed` collects the names of its items
-//! (`names_given`, `add_name`, `name_in`, `name_of`) and sorts them.
+//! (`names_given`, `name_in`) and sorts them.
 ghost use Rattle.std.specs.Prelude.{◌⊎◌, List, ℕ, IfOk, IfErr, IsErrAnd, IsErrOf, IsPermutation};
 ghost use Rattle.std.specs.Cmp.Lexicographic.{slice_cmp};
 ghost use Rattle.std.specs.Iterator.{IsFinite};
 ghost use Rattle.std.specs.List.Sorted.{IsSorted};
 ghost use Rattle.std.specs.Ordering.{nat_cmp};
 ghost use Rattle.std.specs.declared.io.Error.{Error};
-ghost use Rattle.par2_disk.specs.Runtime.{Adds, AreNamesOf, CountsAs, FailsAtItem, FailsBy, IsCounted, IsMisnamed, IsOutOfMemory, IsReportedAs};
+ghost use Rattle.par2_disk.specs.Runtime.{AreNamesOf, FailsAtItem, FailsBy, IsCounted, IsOutOfMemory, IsReportedAs};
 
 use crate::ReadFault;
 use crate::entry::Entry;
 use par2_files::{BadName, Name, is_reserved};
 use std::alloc::Global;
-use std::fs::FileType;
 use std::io::{self, Error, ErrorKind};
 
-// The name of an entry of this kind if it is a file, and None if it isn't or belongs to the history. Another name that
-// isn't a `Name` is an error, because a run must not overlook a file.
-fn name_of(kind: FileType, name: &str) -> io::Result<Option<Name>>
-    ensures name { IfOk result (CountsAs kind name.now) }
-    ensures failed { IfErr result (IsMisnamed kind name.now) }
+// The name of the file that an item of a listing is, or None if it is no file or belongs to the history. It fails with
+// the item's error, with that of asking its kind, or because the file's name isn't a `Name`: a run must not overlook a
+// file.
+fn name_in<E: Entry + Drop>(item: io::Result<E>) -> io::Result<Option<Name>>
+    ensures name { IfOk result (IsCounted E.Entry item) }
+    ensures failed { IfErr result (FailsBy E.Entry item) }
 {
+    let entry = item?;
+    let (kind, name) = (entry.kind()?, entry.name());
     if !kind.is_file() {
         return Ok(None);
     }
@@ -29,28 +31,6 @@ fn name_of(kind: FileType, name: &str) -> io::Result<Option<Name>>
         Err(BadName) if is_reserved(name.as_bytes()) => Ok(None),
         Err(BadName) => Err(Error::from(ErrorKind::InvalidFilename)),
     }
-}
-
-// The name of the file that an item of a listing is, or None if it is no file or belongs to the history. It fails with
-// the item's error, with that of asking its kind, or because the file's name isn't a `Name`.
-fn name_in<E: Entry + Drop>(item: io::Result<E>) -> io::Result<Option<Name>>
-    ensures name { IfOk result (IsCounted E.Entry item) }
-    ensures failed { IfErr result (FailsBy E.Entry item) }
-{
-    let entry = item?;
-    name_of(entry.kind()?, entry.name())
-}
-
-// Adds the name of an item of a listing to `names`, if the item is a file of the folder. Out of memory is an error,
-// too.
-fn add_name<E: Entry + Drop>(names: &mut Vec<Name>, item: io::Result<E>) -> io::Result<()>
-    ensures added { IfOk result (λ _. Adds E.Entry names.old.items item names.new.items) }
-    ensures failed { IfErr result (λ error. IsOutOfMemory error ⊎ FailsBy E.Entry item error) }
-{
-    if let Some(name) = name_in(item)? {
-        names.push(name)?;
-    }
-    Ok(())
 }
 
 // The names of a listing's files, in the order of the listing; or the error of the first item that fails
@@ -65,7 +45,9 @@ fn names_given<I: Iterator<Item = io::Result<E>> + Drop, E: Entry + Drop>(
 {
     let mut names = Vec::new(alloc);
     for item in listing {
-        add_name(&mut names, item)?;
+        if let Some(name) = name_in(item)? {
+            names.push(name)?;
+        }
     }
     Ok(names)
 }

@@ -1,5 +1,7 @@
 //! The modes of written files: nobody may read more than the files allow that were read. `note_at` notes each file that
 //! is read, and `mode_at` gives the mode of a file that is written. Modes are the permission bits, such as 0o644.
+#![tactic(auto, using(crate::proofs::Permissions::permissions))]
+
 ghost use Rattle.std.specs.Prelude.{◌≡◌, [], IsOk, bit_and};
 ghost use Rattle.par2_disk.specs.Modes.{GivesNoMore, IsAllowedAt, IsBeside, IsNotedAt, IsWithinThoseNamed};
 
@@ -29,19 +31,6 @@ fn beside(permissions: u32, mode: u32) -> u32
 {
     let permissions = unless_readable(permissions, mode, 0o040, !0o070);
     unless_readable(permissions, mode, 0o004, !0o007)
-}
-
-// `permissions`, limited to the mode of the file (name and mode) if it has this name. For `of_file`.
-fn within_named(permissions: u32, file: &(Name, u32), name: &Name) -> u32
-    ensures within { GivesNoMore result permissions }
-    ensures named { file.now.0 ≡ name.now → GivesNoMore result file.now.1 }
-    ensures other { (file.now.0 ≡ name.now → ⊥) → result ≡ permissions }
-{
-    if file.0 == *name {
-        permissions & file.1
-    } else {
-        permissions
-    }
 }
 
 /// The modes of the files of a directory that were read, and of the journal.
@@ -90,7 +79,9 @@ impl Modes {
     {
         let mut permissions = ALL;
         for file in &self.files {
-            permissions = within_named(permissions, file, name);
+            if file.0 == *name {
+                permissions &= file.1;
+            }
         }
         permissions
     }

@@ -1,19 +1,19 @@
-//! Reading a file to its end (`read_opened`), writing one (`written_to`), and syncing it (`sync_opened`). Each takes
-//! the runtime's result of the open, so that the current directory passes errors on without a test.
+//! Reading a file to its end (`read_within`), writing one (`written_to`), syncing it (`sync_opened`), and its stamp
+//! (`stamp_by`). These three take the runtime's result, so that the current directory passes errors on without a test.
 ghost use Rattle.std.specs.Io.KnownBytes.{Appends};
-ghost use Rattle.std.specs.Prelude.{◌≡◌, IfOk, IfErr, IfSome, IsErr, IsErrAnd};
-ghost use Rattle.par2_disk.specs.Runtime.{IsReportedAs};
+ghost use Rattle.std.specs.Prelude.{◌≡◌, IfOk, IfSome, IsErr};
+ghost use Rattle.std.specs.IoError.{error_kind};
+ghost use Rattle.std.specs.Fs.{metadata_len};
+ghost use Rattle.par2_disk.specs.Runtime.{IsReportedAs, IsStampedBy};
 
-use crate::ReadFault;
+use crate::{ReadFault, StoreFault};
 use std::alloc::{AllocError, Global};
-use std::fs::OpenFile;
+use std::fs::{Metadata, OpenFile};
 use std::io::{self, Error, ErrorKind, Read, Write};
+use std::os::unix::fs::MetadataExt;
 
 // The most bytes that are read at a time.
 const BLOCK: usize = 1 << 16;
-
-// The most reads of a file: if it hasn't ended by then, reading it fails.
-const READS: u64 = 1 << 32;
 
 impl From<AllocError> for ReadFault {
     ghost use Rattle.par2_disk.specs.declared.store.ReadFault.{ReadFault};
@@ -61,21 +61,6 @@ pub fn read_within<F: Read>(
     Err(ReadFault::Store)
 }
 
-/// The bytes of an opened file, to its end, or the error of the open. `size` is a hint for how many bytes to reserve.
-/// `IsReportedAs`: the fault is Memory exactly for an error of kind OutOfMemory.
-pub fn read_opened<F: Read + Drop>(
-    opened: io::Result<F>,
-    alloc: Global,
-    size: u64,
-) -> Result<Vec<u8>, ReadFault>
-    ensures bytes { IfOk result (λ bytes. IfOk opened (λ file.
-        IfSome (F.remaining file) (λ left. bytes.items ≡ left))) }
-    ensures unopened { IfErr opened (λ error. IsErrAnd result (IsReportedAs error)) }
-{
-    let mut reader = opened?;
-    read_within(&mut reader, alloc, size as usize, READS)
-}
-
 /// Writes all bytes to an opened file, and returns it, to be synced; or the error of the open or of a write.
 pub fn written_to<F: Write + Drop>(opened: io::Result<F>, bytes: &[u8]) -> io::Result<F>
     ensures bytes { IfOk result (λ file. IfOk opened (λ before.
@@ -92,4 +77,44 @@ pub fn sync_opened<F: OpenFile + Drop>(opened: io::Result<F>) -> io::Result<()>
     ensures { IsErr opened → IsErr result }
 {
     opened?.sync_all()
+}
+
+/// Which file is at a path, and in what state: device, inode, size and time of the last write. A file that is written
+/// under another name and then renamed to the path has another stamp. The stamp of the journal that a run read is
+/// compared before its first writing call, to see that no other run has written the folder.
+#[derive(Clone, Copy, PartialEq, Eq)]
+pub struct Stamp {
+    device: u64,
+    number: u64,
+    size: u64,
+    seconds: i64,
+    nanoseconds: i64,
+}
+
+impl Stamp {
+    /// The stamp of a file with this metadata. Contracts know only that the size is the file's.
+    pub fn new(metadata: &Metadata) -> Stamp
+        ensures { result.size ≡ metadata_len metadata.now }
+    {
+        Stamp {
+            device: metadata.dev(),
+            number: metadata.ino(),
+            size: metadata.len(),
+            seconds: metadata.mtime(),
+            nanoseconds: metadata.mtime_nsec(),
+        }
+    }
+}
+
+/// The stamp of the file at a path, `None` if nothing is there, from `answer`, the runtime's result for the path. An
+/// error other than NotFound is a fault.
+pub fn stamp_by(answer: io::Result<Metadata>) -> Result<Option<Stamp>, StoreFault>
+    ensures stamp { IfOk result (IsStampedBy (λ e. error_kind e ≡ ErrorKind.NotFound) answer) }
+    ensures fault { IsErr result → IsErr answer }
+{
+    match answer {
+        Ok(metadata) => Ok(Some(Stamp::new(&metadata))),
+        Err(error) if error.kind() == ErrorKind::NotFound => Ok(None),
+        Err(_) => Err(StoreFault),
+    }
 }

@@ -1,6 +1,7 @@
 -- The state of a printer after bytes were written to it.
 use Rattle.std.specs.Prelude.{◌≡◌, ◌<◌, ◌≤◌, ℕ, List, [], length, take, Option, Result, MatchResult, true}
 use Rattle.std.specs.Io.KnownBytes.{Appends}
+use Rattle.par2_spec.specs.Output.{line}
 use Rattle.par2_spec.specs.Writing as writing
 use Rattle.par2_output.specs.declared.printer.Printer.{Printer}
 
@@ -37,6 +38,10 @@ TookInVain contents old new bytes =
 -- proper prefix
 abbrev pub PrinterWrote : {W T E : Type 0} → (W → Option (List ℕ)) → Printer W → Printer W → List ℕ → Result T E → Type 0
 PrinterWrote contents old new bytes r = writing.Wrote (seen contents old) (seen contents new) bytes r
+
+-- a call that writes these bytes as a line
+abbrev pub Prints : {W T E : Type 0} → (W → Option (List ℕ)) → Printer W → Printer W → List ℕ → Result T E → Type 0
+Prints contents old new bytes r = PrinterWrote contents old new (line bytes) r
 
 -- one call that writes some of the bytes: it took at least one of them, and the first so many, or it failed and took none
 abbrev pub PrinterTookSome : {W E : Type 0} → (W → Option (List ℕ)) → Printer W → Printer W → List ℕ → Result ℕ E → Type 0

@@ -1,9 +1,11 @@
 //! The line of a failure: `write_failure` chooses the reason, and `write_fault` does so for a refused command and adds
 //! the name (`word`) or the numbers that complete it.
+#![tactic(auto, unfolding(par2_spec::specs::Output::error_of, par2_spec::specs::Output::failure_line, par2_spec::specs::Output::fault_line))]
+
 ghost use Rattle.std.specs.Prelude.{◌≡◌, ◌++◌, ◌∷◌, codes, map, string_bytes};
-ghost use Rattle.par2_spec.specs.Output.{error_of, fault_line, line, word_at};
+ghost use Rattle.par2_spec.specs.Output.{error_of, fault_line, word_at};
 ghost use Rattle.par2_output.specs.PrintedValues.{words_given};
-ghost use Rattle.par2_output.specs.PrinterStates.{PrinterWrote};
+ghost use Rattle.par2_output.specs.PrinterStates.{PrinterWrote, Prints};
 
 use crate::printer::{Printer, Written, write_line};
 use crate::report::write_lost;
@@ -40,25 +42,23 @@ fn word<'a>(command: Option<&'a Command>, place: usize) -> &'a str
 
 // Writes `par2: ` and the reason, as a line, for a failure that names no word.
 fn write_reason<W: Write>(out: &mut Printer<W>, reason: &str) -> Written
-    ensures { PrinterWrote W.contents out.old out.new (line (codes "par2: " ++ reason.now)) result }
+    ensures { Prints W.contents out.old out.new (codes "par2: " ++ reason.now) result }
 {
     write_line(out, &["par2: ", reason])
 }
 
 // Writes `par2: `, the reason and the word that it is about, as a line.
 fn write_reason_with<W: Write>(out: &mut Printer<W>, reason: &str, word: &str) -> Written
-    ensures { PrinterWrote W.contents out.old out.new
-        (line (codes "par2: " ++ reason.now ++ word.now)) result }
+    ensures { Prints W.contents out.old out.new (codes "par2: " ++ reason.now ++ word.now) result }
 {
     write_line(out, &["par2: ", reason, word])
 }
 
 // Writes the line of a refused command: the reason of the fault, and the name at its place, or the numbers of lost
 // slices. `command` is the command that was read.
-#[tactic(auto, unfolding(par2_spec::specs::Output::fault_line))]
 fn write_fault<W: Write>(out: &mut Printer<W>, command: Option<&Command>, fault: Fault) -> Written
-    ensures { PrinterWrote W.contents out.old out.new
-        (line (codes "par2: " ++ fault_line (words_given command.entry) fault)) result }
+    ensures { Prints W.contents out.old out.new
+        (codes "par2: " ++ fault_line (words_given command.entry) fault) result }
 {
     let reason = fault.reason();
     match fault {
@@ -80,7 +80,6 @@ const USAGE: &str =
 ///
 /// If the fault has a place, the line ends with the word that was given there; place 0 is the base. `command` is the
 /// command that was read, if there was one.
-#[tactic(auto, unfolding(par2_spec::specs::Output::error_of, par2_spec::specs::Output::failure_line))]
 pub fn write_failure<W: Write>(
     out: &mut Printer<W>,
     command: Option<&Command>,

@@ -2,8 +2,7 @@
 //! which calls `Printer::write` until all bytes are taken. A run flushes once, at its end.
 ghost use Rattle.std.specs.Prelude.{◌≡◌, ◌+◌, [], OnOk, OnErr};
 ghost use Rattle.std.specs.List.{flat_map};
-ghost use Rattle.par2_spec.specs.Output.{line};
-ghost use Rattle.par2_output.specs.PrinterStates.{IsFlushed, PrinterTookAll, PrinterTookSome, PrinterWrote, TookInVain, failures_of, writer_of};
+ghost use Rattle.par2_output.specs.PrinterStates.{IsFlushed, PrinterTookAll, PrinterTookSome, PrinterWrote, Prints, TookInVain, failures_of, writer_of};
 
 use par2_disk::Count;
 use std::io::{ErrorKind, Write};
@@ -121,8 +120,7 @@ fn write_bytes<W: Write>(out: &mut Printer<W>, bytes: &[u8]) -> Written
 
 /// Writes the strings, one after the other, and a newline. Each line that the program prints is written with it.
 pub(crate) fn write_line<W: Write>(out: &mut Printer<W>, strings: &[&str]) -> Written
-    ensures { let string = flat_map (λ string. string.now) strings.now in
-        PrinterWrote W.contents out.old out.new (line string) result }
+    ensures { Prints W.contents out.old out.new (flat_map (λ s. s.now) strings.now) result }
 {
     for string in strings {
         write_bytes(out, string.as_bytes())?;

@@ -1,12 +1,13 @@
 //! The lines of a verify's report (`write_set`, `write_target` for each target, `write_verdict`) and of any other
 //! accepted command (`write_note`, `write_step` for each step, `write_done`). `par2_tool` calls them in this order.
-//! `PrinterWrote` in their contracts: the line is written whole, or a proper prefix of it is, and a failure is counted.
+//! `Wrote` in their contracts: the bytes are written whole, or a proper prefix of them is, and a failure is counted.
+//! `Prints`: the same of a line.
 ghost use Rattle.std.specs.Prelude.{◌≡◌, ◌++◌, codes, decimal};
 ghost use Rattle.hex.specs.Hex.{encode_lower};
 ghost use Rattle.par2_spec.specs.Reports.{Report};
-ghost use Rattle.par2_spec.specs.Output.{line, lost_line, note_line, of_all, step_line, target_line, verdict_words};
+ghost use Rattle.par2_spec.specs.Output.{lost_line, note_line, of_all, step_line, target_line, verdict_words};
 ghost use Rattle.par2_output.specs.PrintedValues.{step_shown, target_shown};
-ghost use Rattle.par2_output.specs.PrinterStates.{PrinterWrote};
+ghost use Rattle.par2_output.specs.PrinterStates.{PrinterWrote as Wrote, Prints};
 
 use crate::printer::{Printer, Written, write_line};
 use itoa::Buffer;
@@ -34,8 +35,7 @@ pub struct PrintedTarget<'a> {
 
 /// Writes `set` and the Recovery Set ID in hexadecimal digits, as the first line of a report.
 pub fn write_set<W: Write>(out: &mut Printer<W>, set_id: &[u8; 16]) -> Written
-    ensures { PrinterWrote W.contents out.old out.new
-        (line (codes "set " ++ encode_lower set_id.now)) result }
+    ensures { Prints W.contents out.old out.new (codes "set " ++ encode_lower set_id.now) result }
 {
     let mut digits = [0; 32];
     match hex::encode_to_slice(set_id.as_slice(), &mut digits) {
@@ -50,8 +50,8 @@ pub fn write_set<W: Write>(out: &mut Printer<W>, set_id: &[u8; 16]) -> Written
 // Writes the line of a damaged or missing target: `state`, which ends with a space, the name, and how many of its
 // slices are known and how many it has, as `3/8`.
 fn write_counts<W: Write>(out: &mut Printer<W>, state: &str, target: PrintedTarget<'_>) -> Written
-    ensures { PrinterWrote W.contents out.old out.new (line (state.now
-        ++ target.entry.name.now ++ codes " " ++ of_all (target_shown target.entry))) result }
+    ensures { Prints W.contents out.old out.new (state.now ++ target.entry.name.now ++ codes " "
+        ++ of_all (target_shown target.entry)) result }
 {
     let mut found = Buffer::new();
     let mut total = Buffer::new();
@@ -61,8 +61,7 @@ fn write_counts<W: Write>(out: &mut Printer<W>, state: &str, target: PrintedTarg
 
 /// Writes the line of a target: its state, its name, and its other name if it is misplaced, or its numbers of slices.
 pub fn write_target<W: Write>(out: &mut Printer<W>, target: PrintedTarget<'_>) -> Written
-    ensures { PrinterWrote W.contents out.old out.new
-        (target_line (target_shown target.entry)) result }
+    ensures { Wrote W.contents out.old out.new (target_line (target_shown target.entry)) result }
 {
     match target.state {
         PrintedState::Complete => write_line(out, &["complete ", target.name]),
@@ -82,8 +81,7 @@ pub(crate) fn write_lost<W: Write>(
     lost: usize,
     rank: usize,
 ) -> Written
-    ensures { PrinterWrote W.contents out.old out.new
-        (line (start.now ++ lost_line lost rank)) result }
+    ensures { Prints W.contents out.old out.new (start.now ++ lost_line lost rank) result }
 {
     let mut slices = Buffer::new();
     let mut kept = Buffer::new();
@@ -99,8 +97,7 @@ pub fn write_verdict<W: Write>(
     rank: usize,
 ) -> Written
     ensures { (r : Report) → r.lost ≡ lost → r.rank ≡ rank
-        → PrinterWrote W.contents out.old out.new
-        (line (codes "result: " ++ verdict_words r verdict)) result }
+        → Prints W.contents out.old out.new (codes "result: " ++ verdict_words r verdict) result }
 {
     match verdict {
         Verdict::Complete => write_line(out, &["result: ", "complete"]),
@@ -120,7 +117,7 @@ pub enum PrintedStep<'a> {
 
 /// Writes the line `note: history dropped` if opening dropped the history, and nothing otherwise.
 pub fn write_note<W: Write>(out: &mut Printer<W>, dropped: bool) -> Written
-    ensures { PrinterWrote W.contents out.old out.new (note_line dropped) result }
+    ensures { Wrote W.contents out.old out.new (note_line dropped) result }
 {
     if dropped {
         write_line(out, &["note: history dropped"])
@@ -131,7 +128,7 @@ pub fn write_note<W: Write>(out: &mut Printer<W>, dropped: bool) -> Written
 
 /// Writes the line of a step: its kind, and its one or two names.
 pub fn write_step<W: Write>(out: &mut Printer<W>, step: PrintedStep<'_>) -> Written
-    ensures { PrinterWrote W.contents out.old out.new (step_line (step_shown step.entry)) result }
+    ensures { Wrote W.contents out.old out.new (step_line (step_shown step.entry)) result }
 {
     match step {
         PrintedStep::Write(name) => write_line(out, &["write ", name]),
@@ -143,8 +140,7 @@ pub fn write_step<W: Write>(out: &mut Printer<W>, step: PrintedStep<'_>) -> Writ
 
 /// Writes `done: K` as the last line after the steps, where K is their number.
 pub fn write_done<W: Write>(out: &mut Printer<W>, count: usize) -> Written
-    ensures { PrinterWrote W.contents out.old out.new
-        (line (codes "done: " ++ decimal count)) result }
+    ensures { Prints W.contents out.old out.new (codes "done: " ++ decimal count) result }
 {
     let mut buffer = Buffer::new();
     write_line(out, &["done: ", buffer.format(count)])

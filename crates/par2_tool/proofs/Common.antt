@@ -55,8 +55,7 @@ pub use Rattle.par2_spec.specs.declared.Fault.{Fault}
 pub use Rattle.par2_spec.specs.declared.Fault.TheVariants.{Memory, NotRepairable, RepairFailed}
 pub use Rattle.par2_spec.specs.declared.JournalFault.{JournalFault}
 pub use Rattle.par2_spec.specs.declared.Version.TheVariants.{Two}
-pub use Rattle.par2_tool.specs.Opening.{AreAtMost, AreCallsToOpen, AreSomeWritten, ContentsAreDurable, CountsCalls, FingerprintsDifferBack, Holds, HoldsJournaled, IsCounted, IsHalfway, IsOpened, IsOpening, IsSettled, IsStillHalfway, IsTakenBack, IsUnopened, IsVerify, KeepsStore, OnlyTakesBack, OpensAsBefore, OpensStore, StandsFor, WasRead, refused_as, started_of, unopened_as, with_all_changes, with_history}
-pub use Rattle.par2_tool.specs.Performing.{ActsOn, FingerprintsDifferAlong, HoldsAfter, IsAnswer, IsOn, IsPerformed, IsRefused, IsStoppedAt, IsWritten, OpensAsBeforeOrAfter, RefusesAtOnce, after_write_down, calls_before, calls_requested, calls_unless, failure_for, outcome_of, with_halfway_journal}
+pub use Rattle.par2_tool.specs.OpenedStores.{AreAtMost, AreCallsToOpen, AreSomeWritten, ContentsAreDurable, CountsCalls, FingerprintsDifferBack, Holds, HoldsJournaled, IsCounted, IsHalfway, IsOpened, IsOpening, IsSettled, IsStillHalfway, IsTakenBack, IsUnopened, IsVerify, KeepsStore, OnlyTakesBack, OpensAsBefore, OpensStore, StandsFor, WasRead, refused_as, started_of, unopened_as, with_all_changes, with_history, ActsOn, FingerprintsDifferAlong, HoldsAfter, IsAnswer, IsOn, IsPerformed, IsRefused, IsStoppedAt, IsWritten, OpensAsBeforeOrAfter, RefusesAtOnce, after_write_down, calls_before, calls_requested, calls_unless, failure_for, outcome_of, with_halfway_journal}
 pub use Rattle.par2_tool.specs.Runs.{Answered, AreCallsToRun, AskFor, AskForRepair, CountsFailedRun, Effective, Failed, FingerprintsDifferInRun, HasNoEffect, IsBack, IsCause, IsDone, IsFailed, IsOneUndoFrom, IsPrinted, IsRefusedFor, IsResult, IsRun, IsRunResult, IsShown, IsStopped, IsUnread, KeepOneHistory, LeadBackAsOpened, OpensInOneWay, RunResult, Runs, TakesEffect}
 pub use Rattle.par2_tool.specs.declared.opening.OpenFault.{OpenFault}
 pub use Rattle.par2_tool.specs.declared.performing.PerformFault.{PerformFault}

@@ -1,3 +1,2 @@
-pub mod Opening
-pub mod Performing
+pub mod OpenedStores
 pub mod Runs

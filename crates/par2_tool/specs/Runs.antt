@@ -27,8 +27,7 @@ use Rattle.par2_disk.specs.declared.view.Store.{Ghosts as StoreOf}
 use Rattle.par2_output.specs.PrintedValues.{words_requested}
 use Rattle.par2_output.specs.PrinterStates.{IsFlushed, PrinterTookAll, TookInVain, PrinterTookPart}
 use Rattle.par2_output.specs.declared.printer.Printer.{Printer}
-use Rattle.par2_tool.specs.Opening.{IsOpening, IsOpened, IsHalfway, IsSettled, OnlyTakesBack, ContentsAreDurable, with_history, AreAtMost, AreCallsToOpen, FingerprintsDifferBack, IsCounted}
-use Rattle.par2_tool.specs.Performing.{IsAnswer, IsWritten, HoldsAfter, FingerprintsDifferAlong, calls_requested}
+use Rattle.par2_tool.specs.OpenedStores.{IsOpening, IsOpened, IsHalfway, IsSettled, OnlyTakesBack, ContentsAreDurable, with_history, AreAtMost, AreCallsToOpen, FingerprintsDifferBack, IsCounted, IsAnswer, IsWritten, HoldsAfter, FingerprintsDifferAlong, calls_requested}
 
 -- the words request this action, and clap finds no fault with them
 pub record AskFor (words : List Text) (action : Action) : Type 0 where

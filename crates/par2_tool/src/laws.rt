@@ -6,7 +6,7 @@ ghost use Rattle.par2_spec.specs.History.{Refusal, history_after, IsChanging};
 ghost use Rattle.par2_spec.specs.Opening.{Started};
 ghost use Rattle.par2_spec.specs.Sessions.{history_of};
 ghost use Rattle.par2_spec.specs.Stores.{Contents};
-ghost use Rattle.par2_tool.specs.Opening.{IsOpening, IsSettled};
+ghost use Rattle.par2_tool.specs.OpenedStores.{IsOpening, IsSettled};
 ghost use Rattle.par2_tool.specs.Runs.{IsRefusedFor, KeepOneHistory, LeadBackAsOpened, OpensInOneWay, Runs, TakesEffect};
 
 use par2_journal_format::one_reading;

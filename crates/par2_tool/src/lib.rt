@@ -9,10 +9,9 @@ mod opening;
 mod performing;
 mod printing;
 mod running;
-mod starting;
 mod writing;
 
-pub use headline::run;
+pub use headline::{run, start};
 pub use laws::{runs_keep_one_history, stores_open_in_one_way, undone_runs_lead_back};
 pub use opening::{OpenFault, Started, open_store};
 pub use par2_arguments::{WordsFault, read_words};
@@ -20,4 +19,3 @@ pub use par2_journal::{Report, Session, SessionFault, State, Step, Steps, Target
 pub use par2_output::Printer;
 pub use par2_spec::{Action, Command, CreateArgs, Failure, Fault};
 pub use performing::{Outcome, PerformFault, perform};
-pub use starting::start;

@@ -6,7 +6,7 @@ ghost use Rattle.par2_journal.specs.Opening.{OpensAsIs, session_before, way_left
 ghost use Rattle.par2_spec.specs.Opening.{new_session, started};
 ghost use Rattle.par2_spec.specs.Sessions.{session_of_kept};
 ghost use Rattle.par2_disk.specs.Stores.{OnlyReads};
-ghost use Rattle.par2_tool.specs.Opening.{IsUnopened, IsVerifyGiven, KeepsStore, OpensFor, OpensStore, Starts, TakesWayBack, WasRead, refused_as, started_of, unopened_as, with_history};
+ghost use Rattle.par2_tool.specs.OpenedStores.{IsUnopened, IsVerifyGiven, KeepsStore, OpensFor, OpensStore, Starts, TakesWayBack, WasRead, refused_as, started_of, unopened_as, with_history};
 
 use crate::writing::write_down;
 use par2_disk::{FolderStore, ReadFault, read_folder};
@@ -52,7 +52,7 @@ impl From<AllocError> for OpenFault {
 
 impl From<ReadFault> for OpenFault {
     ghost use Rattle.std.specs.Prelude.{◌≡◌};
-    ghost use Rattle.par2_tool.specs.Opening.{open_fault_of};
+    ghost use Rattle.par2_tool.specs.OpenedStores.{open_fault_of};
 
     ghost from_gives = { λ fault unopened. unopened ≡ open_fault_of fault };
 
@@ -67,7 +67,7 @@ impl From<ReadFault> for OpenFault {
 
 impl From<OpenFault> for Failure {
     ghost use Rattle.std.specs.Prelude.{◌≡◌};
-    ghost use Rattle.par2_tool.specs.Opening.{unopened_as};
+    ghost use Rattle.par2_tool.specs.OpenedStores.{unopened_as};
 
     ghost from_gives = { λ fault failure. failure ≡ unopened_as fault };
 
@@ -96,8 +96,7 @@ fn without_history(alloc: Global, folder: Folder) -> Started
 // The result of opening if the journal was refused for `fault`: if the folder isn't as a finished command left it, a
 // new session whose history was dropped, otherwise the fault, as the definitions say.
 fn without_journal(alloc: Global, fault: JournalFault, folder: Folder) -> Result<Started, OpenFault>
-    ensures started { IfOk result (λ opened.
-        started folder.files (Err fault) ≡ Ok (started_of opened)) }
+    ensures started { IfOk result (λ s. started folder.files (Err fault) ≡ Ok (started_of s)) }
     ensures refused { IfErr result (λ refused. (started folder.files (Err fault) ≡ Err fault)
         × (refused ≡ refused_as fault)) }
 {

@@ -3,8 +3,7 @@
 ghost use Rattle.std.specs.Prelude.{IfOk, IfErr};
 ghost use Rattle.par2_spec.specs.Sessions.{session_of_kept};
 ghost use Rattle.par2_spec.specs.Views.{command_of};
-ghost use Rattle.par2_tool.specs.Opening.{CountsCalls, KeepsStore};
-ghost use Rattle.par2_tool.specs.Performing.{ActsOn, IsPerformed, IsRefused, RefusesAtOnce, calls_requested, failure_for};
+ghost use Rattle.par2_tool.specs.OpenedStores.{CountsCalls, KeepsStore, ActsOn, IsPerformed, IsRefused, RefusesAtOnce, calls_requested, failure_for};
 
 use crate::writing::write_down;
 use par2_disk::FolderStore;
@@ -47,7 +46,7 @@ impl From<AllocError> for PerformFault {
 
 impl From<PerformFault> for Failure {
     ghost use Rattle.std.specs.Prelude.{◌≡◌};
-    ghost use Rattle.par2_tool.specs.Performing.{failure_for};
+    ghost use Rattle.par2_tool.specs.OpenedStores.{failure_for};
 
     ghost from_gives = { λ fault failure. failure ≡ failure_for fault };
 

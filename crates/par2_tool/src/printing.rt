@@ -1,15 +1,16 @@
 //! The output of a run, and its exit status. `tell` prints the outcome of an accepted command, `fail` a failure; both
 //! then flush (`finish`). The other functions write one part of the output, or convert a value to what `par2_output`
 //! prints.
-ghost use Rattle.std.specs.Io.KnownBytes.{Appends};
-ghost use Rattle.std.specs.Prelude.{◌≡◌, ◌<◌, ◌++◌, ◌⊎◌, [], map, flat_map};
-ghost use Rattle.par2_spec.specs.Output.{done_lines, note_line, step_line, target_line, report_lines, output_of, error_of};
+#![tactic(auto, unfolding(par2_spec::specs::Output::output_of, par2_spec::specs::Output::status_of, par2_spec::specs::Output::status_of_fault, par2_spec::specs::Output::status_of_failure))]
+
+ghost use Rattle.std.specs.Prelude.{◌≡◌, ◌++◌, [], map};
+ghost use Rattle.par2_spec.specs.Output.{done_lines, note_line, report_lines, output_of, error_of};
 ghost use Rattle.par2_spec.specs.Output as buffers;
 ghost use Rattle.par2_journal.specs.StepViews.{step_view};
 ghost use Rattle.par2_repair.specs.ReportViews.{state_view, target_report_of, report_view};
 ghost use Rattle.par2_output.specs.PrintedValues.{step_shown, state_shown, target_shown, words_given};
-ghost use Rattle.par2_output.specs.PrinterStates.{IsFlushed, PrinterWrote as Wrote, failures_of, writer_of};
-ghost use Rattle.par2_tool.specs.Performing.{outcome_of};
+ghost use Rattle.par2_output.specs.PrinterStates.{PrinterWrote as Wrote};
+ghost use Rattle.par2_tool.specs.OpenedStores.{outcome_of};
 ghost use Rattle.par2_tool.specs.Runs.{IsPrinted};
 
 use crate::performing::Outcome;
@@ -36,17 +37,6 @@ fn printed(step: &Step) -> PrintedStep<'_>
     }
 }
 
-// Writes a line for each step of a command, in order.
-fn write_steps<W: Write>(out: &mut Printer<W>, steps: &[Step]) -> Written
-    ensures { Wrote W.contents out.old out.new
-        (flat_map step_line (map step_view steps.now)) result }
-{
-    for step in steps {
-        write_step(out, printed(step))?;
-    }
-    Ok(())
-}
-
 // Writes the lines of an accepted command other than a verify: a note if opening dropped a history (`dropped`), then a
 // line for each step that was done, and their number.
 fn write_accepted<W: Write>(out: &mut Printer<W>, steps: &[Step], dropped: bool) -> Written
@@ -54,7 +44,9 @@ fn write_accepted<W: Write>(out: &mut Printer<W>, steps: &[Step], dropped: bool)
         (note_line dropped ++ done_lines (map step_view steps.now)) result }
 {
     write_note(out, dropped)?;
-    write_steps(out, steps)?;
+    for step in steps {
+        write_step(out, printed(step))?;
+    }
     write_done(out, steps.len())
 }
 
@@ -82,29 +74,19 @@ fn printed_target(target: &TargetReport) -> PrintedTarget<'_>
     }
 }
 
-// Writes a line for each target of a verify's report, in order.
-fn write_targets<W: Write>(out: &mut Printer<W>, targets: &[TargetReport]) -> Written
-    ensures { Wrote W.contents out.old out.new
-        (flat_map target_line (map target_report_of targets.now)) result }
-{
-    for target in targets {
-        write_target(out, printed_target(target))?;
-    }
-    Ok(())
-}
-
 // Writes the lines of a verify: the set's ID, each target, and the verdict.
 fn write_report<W: Write>(out: &mut Printer<W>, report: &Report) -> Written
     ensures { Wrote W.contents out.old out.new (report_lines (report_view report.now)) result }
 {
     write_set(out, &report.set_id)?;
-    write_targets(out, &report.targets)?;
+    for target in &report.targets {
+        write_target(out, printed_target(target))?;
+    }
     write_verdict(out, report.verdict(), report.lost, report.rank)
 }
 
 // Writes what `tell` prints, without a flush: the report of a verify, or the steps of any other command. `dropped` says
 // that opening dropped a history, which a report doesn't show.
-#[tactic(auto, unfolding(par2_spec::specs::Output::output_of))]
 fn write_outcome<W: Write>(out: &mut Printer<W>, outcome: &Outcome, dropped: bool) -> Written
     ensures { Wrote W.contents out.old out.new (output_of dropped (outcome_of outcome.now)) result }
 {
@@ -115,7 +97,6 @@ fn write_outcome<W: Write>(out: &mut Printer<W>, outcome: &Outcome, dropped: boo
 }
 
 // The exit status of an accepted command, if it can be printed: a verify's depends on its verdict, any other is 0.
-#[tactic(auto, unfolding(par2_spec::specs::Output::status_of))]
 fn status_of(outcome: &Outcome) -> u8
     ensures { result ≡ buffers.status_of (outcome_of outcome.now) }
 {
@@ -132,10 +113,7 @@ fn status_of(outcome: &Outcome) -> u8
 // The last step of `tell` and `fail`: flushes what was written. Returns `own`, the status of the outcome or failure, or
 // 6 if the flush fails.
 fn finish<W: Write>(out: &mut Printer<W>, own: u8) -> u8
-    ensures bytes { Appends (W.contents (writer_of out.old)) (W.contents (writer_of out.new)) [] }
-    ensures answer { ((result ≡ own) × IsFlushed out.new
-        × (failures_of out.new ≡ failures_of out.old))
-        ⊎ ((result ≡ 6) × (failures_of out.old < failures_of out.new)) }
+    ensures { IsPrinted W.contents out.old out.new [] own result }
 {
     match out.flush() {
         Ok(()) => own,
@@ -157,7 +135,6 @@ pub fn tell<W: Write>(out: &mut Printer<W>, outcome: &Outcome, dropped: bool) ->
 
 // The exit status of a command that is refused for this fault: 4 for an unreadable set, 2 and 5 for a repair that can't
 // be done or gave wrong bytes, 1 for a purge of an incomplete set, 8 for memory, and 3 for wrong numbers or names.
-#[tactic(auto, unfolding(par2_spec::specs::Output::status_of_fault))]
 fn status_of_fault(fault: Fault) -> u8
     ensures { result ≡ buffers.status_of_fault fault }
 {
@@ -177,7 +154,6 @@ fn status_of_fault(fault: Fault) -> u8
 
 // The exit status of a failed run, if the failure can be printed: that of the fault if the command was refused, 6 for
 // the store, 3 for wrong words, and 9 for a journal or a history that the run can't use.
-#[tactic(auto, unfolding(par2_spec::specs::Output::status_of_failure))]
 fn status_of_failure(failure: Failure) -> u8
     ensures { result ≡ buffers.status_of_failure failure }
 {

@@ -1,13 +1,12 @@
 //! A whole run: `run` reads the words as a command, `carry_out` opens the store and performs it, and `run` prints the
-//! result. `start` calls `headline::run`, which calls this `run` and proves more clauses of it by laws.
+//! result. `headline::run` calls this `run` and proves more clauses of it by laws.
 ghost use Rattle.std.specs.Prelude.{◌≡◌, ◌≤◌, Bool, IfErr, IfOk, IsTrue, map, string_bytes};
 ghost use Rattle.par2_spec.specs.Commands.{Action as Requested};
 ghost use Rattle.par2_spec.specs.Output.{output_of};
 ghost use Rattle.par2_spec.specs.Stores.{Contents};
 ghost use Rattle.par2_spec.specs.Views.{command_of};
 ghost use Rattle.par2_output.specs.PrintedValues.{words_requested};
-ghost use Rattle.par2_tool.specs.Opening.{ContentsAreDurable};
-ghost use Rattle.par2_tool.specs.Performing.{outcome_of};
+ghost use Rattle.par2_tool.specs.OpenedStores.{ContentsAreDurable, outcome_of};
 ghost use Rattle.par2_tool.specs.Runs.{Answered, AskFor, Failed, IsBack, IsResult, IsRun, IsStopped};
 
 use crate::opening::open_for;
@@ -49,17 +48,12 @@ fn carry_out<S: FolderStore>(alloc: Global, store: &mut S, command: &Command) ->
     ensures later { S.failures store.old ≤ S.failures store.new }
     ensures possible { S.honest store.old → S.impossible store.new ≡ S.impossible store.old }
 {
-    let mut started = match open_for(alloc, store, Some(command)) {
-        Ok(started) => started,
-        Err(fault) => return Err(Failure::from(fault)),
-    };
+    let mut started = open_for(alloc, store, Some(command))?;
     if lacks_history(started.dropped, command) {
         return Err(Failure::FolderChanged);
     }
-    match perform(alloc, store, &mut started.session, command) {
-        Ok(outcome) => Ok((outcome, started.dropped)),
-        Err(fault) => Err(Failure::from(fault)),
-    }
+    let outcome = perform(alloc, store, &mut started.session, command)?;
+    Ok((outcome, started.dropped))
 }
 
 /// Reads the words, carries out the command, prints the outcome on `out` or the failure on `err`, and returns the exit

@@ -3,8 +3,7 @@
 ghost use Rattle.std.specs.Prelude.{OnOk};
 ghost use Rattle.par2_disk.specs.Stores.{Makes};
 ghost use Rattle.par2_files.specs.ChangeViews.{change_of};
-ghost use Rattle.par2_tool.specs.Opening.{ContentsAreDurable, StaysKept};
-ghost use Rattle.par2_tool.specs.Performing.{Begins, WritesDown};
+ghost use Rattle.par2_tool.specs.OpenedStores.{ContentsAreDurable, StaysKept, Begins, WritesDown};
 
 use par2_disk::{FolderStore, StoreFault};
 use par2_files::Change;
@@ -48,10 +47,7 @@ pub fn write_down<S: FolderStore>(
 {
     begin(store, &journals.halfway)?;
     for change in changes {
-        match write_change(store, change) {
-            Ok(()) => {}
-            Err(fault) => return Err(fault),
-        }
+        write_change(store, change)?;
     }
     store.put_journal(&journals.after)
 }

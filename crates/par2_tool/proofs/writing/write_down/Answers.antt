@@ -40,8 +40,8 @@ applies_still g c h =
     let files = ap (λ (k : Contents). k.files) (c.in_ok-begin.ensures.written.done h) ∙ halfway_files (g.S.Store.contents c.args.store.now) c.args.journals.now.halfway in
     subst (λ f. IsTrue (are_applicable f (map change_of c.args.changes.now))) (sym files)
 
-pub returns-in-Err-clause-written : goal.returns-in-Err-clause-written
-returns-in-Err-clause-written g c =
+pub returns-in_err-write_change-clause-written : goal.returns-in_err-write_change-clause-written
+returns-in_err-write_change-clause-written g c =
     let old = g.S.Store.contents c.args.store.now in
     let mid = g.S.Store.contents c.begin.new.store in
     let journals = c.args.journals.now in
@@ -51,35 +51,40 @@ returns-in-Err-clause-written g c =
     let held = c.loop-change.invariant in
     let call = c.write_change.ensures in
     let between = next_remains mid (g.S.Store.contents c.loop-change.store) in
+    let result = c.from_residual-in_err-write_change.result in
+    let none = λ (P : Type 0). IfOk-from_err result (λ _. P) c.from_residual-in_err-write_change.ensures.0 in
     record {
       honest = λ h. call.writes.honest (held.honest (begun.written.honest h));
-      done = λ _. tt;
+      done = λ _. none _;
       stopped = λ h.
           let on = begun.written.honest h in
-          some_crash_states old journals (map change_of changes) mid _ (begun.written.done h)
-          (between _ changes c.loop-change.change-index item c.loop-change-test.true c.change-item.is (held.made on) (c.in-Err.ensures.writes.all_or_none (held.honest on)));
+          any_err result _ (some_crash_states old journals (map change_of changes) mid _ (begun.written.done h)
+          (between _ changes c.loop-change.change-index item c.loop-change-test.true c.change-item.is (held.made on) (c.in_err-write_change.ensures.writes.all_or_none (held.honest on))));
       remains = λ h durable left may.
           let on = begun.written.honest h in
           some_crash_states old journals (map change_of changes) mid left (begun.written.done h)
           (between left changes c.loop-change.change-index item c.loop-change-test.true c.change-item.is (held.made on) (call.writes.remains (held.honest on) (held.durable on (begun.kept h durable)) left may));
       failures = record {
         later = omega (arith, begun.written.failures.steady, held.later, call.failures.later);
-        cause = omega (arith, begun.written.failures.steady, held.steady, c.in-Err.ensures.failures.cause);
-        steady = tt;
+        cause = any_err result _ (omega (arith, begun.written.failures.steady, held.steady, c.in_err-write_change.ensures.failures.cause));
+        steady = none _;
       };
       possible = λ h applies.
           let on = begun.written.honest h in
-          let all = applies_still g (goal.at.returns-in-Err-clause-written g c).In_ok-begin h applies in
-          c.in-Err.ensures.possible (held.honest on) (applicable_here _ _ _ _ item (held.made on) c.loop-change-test.true c.change-item.is all)
+          let all = applies_still g (goal.at.returns-in_err-write_change-clause-written g c).In_ok-begin h applies in
+          c.in_err-write_change.ensures.possible (held.honest on) (applicable_here _ _ _ _ item (held.made on) c.loop-change-test.true c.change-item.is all)
           ∙ held.possible on all ∙ begun.written.possible h (unfold are_applicable in refl);
       calls = record {
-        done = tt;
-        refused = record {
+        done = none _;
+        refused = any_err result _ (record {
           later = omega (arith, begun.written.calls.done, held.counted, call.counted);
           within = omega (arith, begun.written.calls.done, held.counted, call.counted, c.loop-change-test.true);
-        };
+        });
       };
     }
+
+pub returns-in_err-write_change-clause-kept : goal.returns-in_err-write_change-clause-kept
+returns-in_err-write_change-clause-kept g c h = IfOk-from_err c.from_residual-in_err-write_change.result _ c.from_residual-in_err-write_change.ensures.0
 
 pub returns-clause-written : goal.returns-clause-written
 returns-clause-written g c =
@@ -125,7 +130,7 @@ pub loop-change-preserved : goal.loop-change-preserved
 loop-change-preserved g c =
     let held = c.loop-change.invariant in
     let item = c.change-item.result in
-    let call = c.in-Ok.ensures.writes in
+    let call = c.in_ok-write_change.ensures.writes in
     record {
       honest = λ h. call.honest (held.honest h);
       made = λ h.
@@ -134,9 +139,9 @@ loop-change-preserved g c =
           ∙ made_next (g.S.Store.contents c.begin.new.store) c.args.changes.now c.loop-change.change-index item c.loop-change-test.true c.change-item.is;
       durable = λ h _. call.durable (held.honest h);
       later = omega (arith, held.later, c.write_change.ensures.failures.later);
-      steady = c.in-Ok.ensures.failures.steady ∙ held.steady;
+      steady = c.in_ok-write_change.ensures.failures.steady ∙ held.steady;
       possible = λ h all.
-          c.in-Ok.ensures.possible (held.honest h) (applicable_here _ _ _ _ item (held.made h) c.loop-change-test.true c.change-item.is all) ∙ held.possible h all;
+          c.in_ok-write_change.ensures.possible (held.honest h) (applicable_here _ _ _ _ item (held.made h) c.loop-change-test.true c.change-item.is all) ∙ held.possible h all;
       counted = omega (arith, held.counted, c.write_change.ensures.counted);
       within = omega (arith, c.loop-change-test.true);
     }

@@ -2,7 +2,7 @@ use Rattle.par2_tool.proofs.Common.{◌∙◌, ◌≡◌, Result, Ok, Err, [], i
 use Rattle.std.specs.Vec.Iter.{into_iter_items}
 use Rattle.std.specs.IoError.{error_kind}
 use Rattle.par2_tool.specs.Runs.{failure_of_kind}
-use Rattle.par2_tool.proofs.starting.start.Goals as goal
+use Rattle.par2_tool.proofs.headline.start.Goals as goal
 
 -- what holds of all arguments holds of those that were given
 where_given : {A E : Type 0} (given : Result A E) (P : A → Type 0) → (IsOk given → (args : A) → P args) → IfOk given P
