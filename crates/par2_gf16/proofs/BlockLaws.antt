@@ -43,8 +43,8 @@ lane j h =
     let parts = and_parts (eqb (lane_of (lane_of j)) j) (ltb (lane_of j) 32) (tested_at (λ i. eqb (lane_of (lane_of i)) i && ltb (lane_of i) 32) 32 j test_lanes h) in
     (eqb-true _ _ parts.0, ltb-true _ _ parts.1)
 
-lane_within : (j : ℕ) (lanes : List ℕ) → j < 32 → length lanes ≡ 32 → lane_of j < length lanes
-lane_within j lanes h many = subst (λ k. lane_of j < k) (sym many) (lane j h).1
+lane_within : (j : ℕ) (v : List ℕ) → j < 32 → length v ≡ 32 → lane_of j < length v
+lane_within j v h many = subst (λ k. lane_of j < k) (sym many) (lane j h).1
 
 abbrev pub exchange : List ℕ → List ℕ
 exchange v = map (λ j. get_or v (lane_of j) 0) (range_with_len 0 32)
@@ -261,9 +261,12 @@ sum_in a b l h lows highs la lb ll lh fa fb fl fh el eh j k =
     (ap (λ xs. get_or xs (lane_of j) 0) eh ∙ get_or-zip2 bit_xor b h (lane_of j) 0 0 0 (lane_within j b k lb) (lane_within j h k lh))
     ∙ xor_words (get_or a (lane_of j) 0) (get_or b (lane_of j) 0) (get_or l (lane_of j) 0) (get_or h (lane_of j) 0) (fa (lane_of j)) (fb (lane_of j)) (fl (lane_of j)) (fh (lane_of j))
 
--- a word of many vectors
+-- word e of vector n
+pub in_vector : (vectors : List WordVector) (n e : ℕ) → e < 32 → word_in (get_or vectors n (record { low = []; high = [] })) e ≡ word_of vectors (32 * n + e)
+in_vector vectors n e low =
+    let at : n ≡ (32 * n + e) / 32 = omega arith in
+    let lane : e ≡ (32 * n + e) % 32 = omega arith in
+    ap₂ (λ k j. word_in (get_or vectors k (record { low = []; high = [] })) j) at lane
+
 pub word_of_one : (vectors : List WordVector) (n i : ℕ) → 32 * n ≤ i → i < 32 * n + 32 → word_in (get_or vectors n (record { low = []; high = [] })) (i - 32 * n) ≡ word_of vectors i
-word_of_one vectors n i from to =
-    let at : n ≡ i / 32 = omega arith in
-    let place : i - 32 * n ≡ i % 32 = omega arith in
-    ap₂ (λ k j. word_in (get_or vectors k (record { low = []; high = [] })) j) at place
+word_of_one vectors n i from to = in_vector vectors n (i - 32 * n) (omega arith) ∙ ap (word_of vectors) (let e : 32 * n + (i - 32 * n) ≡ i = omega arith in e)

@@ -52,7 +52,7 @@ impl WordVector {
 
     /// Adds the words to the thirty-two little-endian words of `dst` from word n on.
     #[inline(always)]
-    pub fn add_to(self, dst: &mut [u8], n: usize)
+    pub(crate) fn add_to(self, dst: &mut [u8], n: usize)
         requires { 2 * n + 64 ≤ length dst.old }
         ensures { AddsEach (λ i. word_in self (i - n)) dst.old dst.new n (n + 32) }
     {

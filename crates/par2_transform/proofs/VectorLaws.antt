@@ -1,15 +1,9 @@
 -- Words of vectors, added to runs of words.
 use Rattle.par2_transform.proofs.Common.{[], inl, inr, ℕ, ◌++◌, ◌+◌, ◌-◌, ◌*◌, ◌/◌, ◌%◌, ◌<◌, ◌≤◌, ◌≡◌, refl, sym, ap, ap₂, ◌∙◌, arith, List, length, length-append, length-take-le, length-drop, length-set, get_or, get_or_past, get_or_append_left, get_or-append_right, get_or-drop, get_or-set_other, get_or-set_same, get_or-take, set, take, drop, bit_xor, AreRewritten, cases_eq, cases_lt, subst, word, word_in, word_of, WordVector, AddsToRun, CopiesVectors, IsButterfly, SameValuesOutside}
+use Rattle.par2_gf16.proofs.BlockLaws.{in_vector}
 
 abbrev pub none : WordVector
 none = record { low = []; high = [] }
-
--- word e of vector n
-pub in_vector : (vectors : List WordVector) (n e : ℕ) → e < 32 → word_in (get_or vectors n none) e ≡ word_of vectors (32 * n + e)
-in_vector vectors n e low =
-    let at : n ≡ (32 * n + e) / 32 = omega arith in
-    let lane : e ≡ (32 * n + e) % 32 = omega arith in
-    ap₂ (λ k j. word_in (get_or vectors k none) j) at lane
 
 pub past_vectors : (vectors : List WordVector) (p : ℕ) → 32 * length vectors ≤ p → word_of vectors p ≡ 0
 past_vectors vectors p high = ap (λ v. word_in v (p % 32)) (get_or_past vectors (p / 32) none (omega (arith, high)))

@@ -1,4 +1,4 @@
-//! Buffers of bytes: clearing, padded copies, sums.
+//! Buffers of bytes: padded copies and sums.
 
 ghost use Rattle.std.specs.Prelude.{◌≡◌, ℕ, ◌^◌, ◌<◌, length, slice_index};
 ghost use Rattle.par2_gf16.specs.Products.{AddsTo};
@@ -12,18 +12,8 @@ pub(crate) fn fit_bytes(bytes: &[u8])
     let _ = bytes.len();
 }
 
-/// Sets all bytes to zero.
-pub(crate) fn clear(bytes: &mut [u8])
-    ensures size { length bytes.new ≡ length bytes.old }
-    ensures zero { (k : ℕ) → slice_index bytes.new k ≡ 0 }
-{
-    for k in 0..bytes.len() {
-        bytes[k] = 0;
-    }
-}
-
 /// Copies as many of the bytes as fit, and fills the rest of `to` with zeros.
-#[tactic(auto, using(crate::proofs::BufferLaws::padded_copy))]
+#[tactic(auto, using(crate::proofs::BufferLaws::padded_copy, par2_gf16::proofs::Parts::zeros_read))]
 pub(crate) fn copy_padded(bytes: &[u8], to: &mut [u8])
     ensures size { length to.new ≡ length to.old }
     ensures same { (k : ℕ) → k < length to.old → slice_index to.new k ≡ slice_index bytes.now k }
@@ -31,7 +21,7 @@ pub(crate) fn copy_padded(bytes: &[u8], to: &mut [u8])
     let count = bytes.len().min(to.len());
     let (front, back) = to.split_at_mut(count);
     front.copy_from_slice(&bytes[..count]);
-    clear(back);
+    back.fill(0);
 }
 
 /// Adds each word of `src` to the word of `dst` at the same place. The sum of two elements is their exclusive or.

@@ -1,5 +1,6 @@
 use Rattle.par2_transform.proofs.Common.{◌∙◌, ap, mul, word_in}
-use Rattle.par2_transform.proofs.VectorLaws.{in_vector, rewritten_then, run_next}
+use Rattle.par2_gf16.proofs.BlockLaws.{in_vector}
+use Rattle.par2_transform.proofs.VectorLaws.{rewritten_then, run_next}
 use Rattle.par2_transform.proofs.vectors.add_products.Goals as goal
 
 pub loop-k-preserved : goal.loop-k-preserved

@@ -1,6 +1,7 @@
 use Rattle.par2_transform.proofs.Common.{◌+◌, ◌*◌, ◌≡◌, arith, ◌∙◌, ap, subst, mul, word_in, word_of, IsButterfly}
 use Rattle.par2_transform.proofs.StepLaws.{butterfly_at, butterfly_runs, run_same}
-use Rattle.par2_transform.proofs.VectorLaws.{butterfly_next, in_vector, rewritten_then}
+use Rattle.par2_gf16.proofs.BlockLaws.{in_vector}
+use Rattle.par2_transform.proofs.VectorLaws.{butterfly_next, rewritten_then}
 use Rattle.par2_transform.proofs.vectors.butterfly.Goals as goal
 
 pub loop-k-preserved : goal.loop-k-preserved
