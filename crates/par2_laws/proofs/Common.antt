@@ -10,22 +10,13 @@ pub use Rattle.std.proofs.lemmas.List.Sorted.{IsPermutation-map, IsPermutation-s
 pub use Rattle.std.specs.FinMap.{get-entries, is_sorted}
 pub use Rattle.std.specs.List.{slice_index_or}
 pub use Rattle.std.specs.Prelude.{IsTrue, bit_xor, slice_get}
-pub use Rattle.par2_spec.specs.Damage.{FitsCreate, FollowsCreate, IsDamage, may_refuse, written_names, HaveAChoice}
-pub use Rattle.par2_spec.specs.Premises.{IsTrueTo, HoldsBytes}
-pub use Rattle.par2_spec.specs.KnownFiles.{AreAllOf, AreDescribed, IsOf, is_read, AreInputs, HoldsVolumes, IsOfOthers, IsVolume, IsVolumeOrOther, set_id_of}
+pub use Rattle.par2_spec.specs.Prelude.{FitsCreate, FollowsCreate, IsDamage, may_refuse, written_names, HaveAChoice, IsTrueTo, HoldsBytes, AreAllOf, AreDescribed, IsOf, is_read, AreInputs, HoldsVolumes, IsOfOthers, IsVolume, IsVolumeOrOther, set_id_of, History, after_undo, folders, in_front, unless_refused, is_input_name, id_of, Matches}
 pub use Rattle.par2_spec.proofs.FilesLaws.{at_name, names_of_files, made_size, purged_files, repaired_files, right_digests, size_even}
-pub use Rattle.par2_spec.proofs.ListsLaws.{all-filter_map, found_at_key}
-pub use Rattle.par2_spec.proofs.NamesLaws.{distinct_same}
+pub use Rattle.par2_spec.proofs.ListsLaws.{all-filter_map, found_at_key, distinct_same, all_none, at_none, where_none}
 pub use Rattle.par2_spec.proofs.OrderLaws.{moved-all, moved-ordered}
-pub use Rattle.par2_spec.proofs.ReadLaws.{all-entries, by_checksums, by_descriptions, by_main, by_profile, by_size, distinct_by_length, finished, mapped, no_slices, read_by, set_with, target_with}
-pub use Rattle.par2_spec.proofs.TestLaws.{all_none, at_none, where_none}
+pub use Rattle.par2_spec.proofs.SearchLaws.{all-entries, by_checksums, by_descriptions, by_main, by_profile, by_size, distinct_by_length, finished, mapped, no_slices, read_by, set_with, target_with}
 pub use Rattle.par2_spec.proofs.WrittenSets.{desc_reads, ifsc_reads, index_reads, main_reads, recovery_slices_read}
-pub use Rattle.par2_spec.specs.History.{History, after_undo, folders, in_front, unless_refused}
-unfoldable pub use Rattle.par2_spec.specs.History.{history_after}
-pub use Rattle.par2_spec.specs.Refusals.{is_input_name}
-pub use Rattle.par2_spec.specs.Volumes.{id_of}
-unfoldable pub use Rattle.par2_spec.specs.Volumes.{packets_of}
-pub use Rattle.par2_spec.specs.Windows.{Matches}
+unfoldable pub use Rattle.par2_spec.specs.Prelude.{history_after, packets_of}
 pub use Rattle.par2_spec.specs.declared.Fault.TheVariants.{BadBase, BadCount, BadName, BadSet, BadSliceSize, DuplicateId, DuplicateInput, EmptyFile, Exists, Memory, NameTooLong, NoChecksums, NoDescription, NoInput, NoMain, NoPackets, NoSuchFile, NotRepairable, RepairFailed, TooManySlices}
 pub use Rattle.par2_spec.specs.declared.Kind.TheVariants.{Creator, FileDesc, Ifsc, Main, Other, Recovery}
 pub use Rattle.par2_spec.specs.declared.Fault.{Fault}

@@ -139,9 +139,7 @@ module _ (before damaged : Folder) (a : CreateArgs) (base : List ℕ) (accepted 
   base_written : Contains (bytes_in (outputs_of before a)) (bytes_of damaged base)
   base_written =
       let par = at_name (λ name. is_par_name name ≡ true) (written_names before a) base (par_outputs before a (and_parts (is_name a.base) (is_par_name a.base) (passes before a accepted).base).1) damage.written in
-      by_either (laid_cases (outputs_of before a) before base (bytes_of damaged base) (is_there base par damage.there))
-      (λ i. i)
-      (λ r. absurd (false≢true (sym r.0 ∙ damage.written)))
+      grind (arith, laid_cases (outputs_of before a) before base (bytes_of damaged base) (is_there base par damage.there), damage.written)
 
   pub set_of_files : MadeFrom damaged base (in_id_order inputs) a.slice
   set_of_files = set_made damaged base a.slice inputs (inputs_taken before a accepted fits) (grind (arith, written, base_written, all_weaker, each_par, and_parts, recursion_from_All, filter_passes))
@@ -159,9 +157,6 @@ target_names_are s files = unfold record_of in map-map (λ t. t.name) (target_of
 to_files : (P : List ℕ → Type 0) (s : ℕ) (files : List File) → AllByRecursion P (all_slices s files) → AllByRecursion (λ file. AllByRecursion P (slices s file.1)) files
 to_files P s [] h = tt
 to_files P s (file ∷ files) h = let r = all-parts P (slices s file.1) (all_slices s files) h in (r.0, to_files P s files r.1)
-
-from_files : (P : List ℕ → Type 0) (s : ℕ) (files : List File) → AllByRecursion (λ file. AllByRecursion P (slices s file.1)) files → AllByRecursion P (all_slices s files)
-from_files P s files h = all-flat_map (λ file. AllByRecursion P (slices s file.1)) P (λ file. slices s file.1) (λ file k. k) files h
 
 -- ---- the files as they were
 
@@ -196,17 +191,14 @@ module _ (before damaged : Folder) (a : CreateArgs) (base : List ℕ) (extras : 
 
   reported : NoCollision damaged searched s (all_slices s ordered)
   reported =
-      from_files (λ slice. AllByRecursion (IsRunResult slice) searched) s ordered
+      all-flat_map (λ file. AllByRecursion (λ slice. AllByRecursion (IsRunResult slice) searched) (slices s file.1)) (λ slice. AllByRecursion (IsRunResult slice) searched) (λ file. slices s file.1) (λ file k. k) ordered
       (moved-all (λ file. AllByRecursion (λ slice. AllByRecursion (IsRunResult slice) searched) (slices s file.1)) given ordered (moved-ordered given)
       (to_files (λ slice. AllByRecursion (IsRunResult slice) searched) s given
       (all_weaker (λ slice. AllByRecursion (IsRunResult slice) (a.inputs ++ extras)) (λ slice. AllByRecursion (IsRunResult slice) searched) (λ slice h. among_searched (IsRunResult slice) h) (all_slices s given) follows.reported)))
 
-  bytes : AllByRecursion (λ file. AreBytes file.1) ordered
-  bytes = moved-all (λ file. AreBytes file.1) given ordered (moved-ordered given) follows.fits.bytes
-
   -- no checksum of the files collides
   pub originals : IsTrueTo damaged base extras ordered s
-  originals = record { made = m; bytes = bytes; no_collision = reported }
+  originals = record { made = m; bytes = moved-all (λ file. AreBytes file.1) given ordered (moved-ordered given) follows.fits.bytes; no_collision = reported }
 
   as_before : (folder : Folder) (words : List (List ℕ)) → AllByRecursion (λ word. not (has before word) ≡ false) words → AllByRecursion (λ file. map_of.get folder file.0 ≡ Some file.1) (files_of before words)
       → AllByRecursion (λ name. map_of.get folder name ≡ map_of.get before name) words
@@ -226,9 +218,7 @@ module _ (before damaged : Folder) (a : CreateArgs) (base : List ℕ) (extras : 
   -- a repair is refused for few causes
   pub few_causes : (purge : Bool) (fault : Fault) → refusal damaged (repair purge) ≡ Some fault → may_refuse fault ≡ true
   few_causes purge fault refused =
-      by_either (reading damaged base extras purge m.set m.reads)
-      (λ read. refused_by damaged m.set searched fault (λ e. (never_fails damaged base extras ordered s originals purge) (refused ∙ ap (λ f. Some f) e)) (sym read.1 ∙ refused))
-      (λ absent. let reported = sym absent.1 ∙ refused in cc)
+      grind (arith, reading damaged base extras purge m.set m.reads, refused_by damaged m.set searched fault, never_fails damaged base extras ordered s originals purge, refused)
 
   pub leaves_choice : (purge : Bool) (missing rank : ℕ) → refusal damaged (repair purge) ≡ Some (NotRepairable missing rank) → HaveAChoice before damaged a base extras
   leaves_choice purge missing rank refused = record { set = originals.made.set; reads = originals.made.reads; others = has_choice damaged base extras ordered s originals purge missing rank refused }

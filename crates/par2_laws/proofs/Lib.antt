@@ -1,6 +1,5 @@
 mod Common
 mod Reading
-mod SurvivingBytes
 mod SetsOfFiles
 mod VolumePackets
 mod VolumeFolders

@@ -1,6 +1,6 @@
 -- Consequences of the result of a repair for the folder, in a session and without one.
 use Rattle.par2_laws.proofs.Common.{◌≡◌, ℕ, List, ◌∷◌, Bool, Ok, arith, Option, None, Result, Err, IsTrue, OnOk, IfOk, Some, ◌⊎◌, Repair, Command, Action, Do, Folder, refusal, after, History, folders, in_front, unless_refused, history_after, Fault, IfErr, is_valid, Memory, LeadsToAfterRequested, Session, session_after, changes_requested, history_of}
-pub use Rattle.par2_spec.specs.RepairLaws.{AnswersRepair, IsRepaired, folder_left}
+pub use Rattle.par2_spec.specs.Prelude.{AnswersRepair, IsRepaired, folder_left}
 
 -- the law that a session follows its history
 abbrev pub GoesAlong : Type 0

@@ -1,7 +1,7 @@
 -- A set whose packets are those of known files was made from them.
 use Rattle.par2_laws.proofs.Common.{by_test, ◌≡◌, ℕ, ◌<◌, ◌^◌, false, List, [], ◌∷◌, ◌++◌, length, map, Some, refl, sym, ap, ◌∙◌, subst, arith, true, Option, None, inl, inr, ◌⊎◌, ◌&&◌, Ok, IsTrue, ◌==◌, nat_lt, filter_map, find, slice_get, option_map, option_and_then, if◌then◌else◌, flat_map, AllByRecursion, Contains, list_any, range_with_len, IsDistinct, length-map, recursion_from_All, All-contains_itself, same_Some, none-some, length-md5, Kind, Main, FileDesc, Ifsc, Recovery, Creator, Other, AreBytes, File, Folder, bytes_of, Packet, MainBody, DescBody, IfscBody, RecoveryBody, accepted, read_main, read_desc, read_ifsc, read_recovery, FileRecord, all_slices, main_bytes, desc_bytes, ifsc_bytes, recovery_bytes, id_of, record_of, packets_of, AreDescribed, is_read, IsOf, AreAllOf, all-append, of_contained, all-map, all-filter_map, found_one, all_unmap, all-passing, all-flat_map-map, bytes_eq, false≢true, and_parts, eqb-true, map-map, md5, Pair, pair_of, slice_count, slice_at, slices, Target, all_some, main_of, description_of, pairs_of, target_of, recovery_of, target_of_file, ParSet, MadeFrom, packets_with, read_set, other_par_names, set_of, all_weaker, all-filter, mapped, target_with, no_slices, all-entries, read_by, same_name, itself, main_reads, ifsc_reads, desc_reads, by_either, common_steps, recovery, all-each, all-both, zero, suc, ◌+◌, ◌*◌, ◌/◌, ◌%◌, bit_xor, fold, crc_step, crc_steps, crc_byte, IsPair, crc32, xor_lt}
 use Rattle.std.specs.FinMap as map_of
-use Rattle.par2_spec.proofs.RestoredLaws.{bytes-slice_at}
+use Rattle.par2_spec.proofs.FilesLaws.{bytes-slice_at}
 
 steps_small : (n c : ℕ) → c < 2 ^ 32 → crc_steps n c < 2 ^ 32
 steps_small zero c h = h
@@ -108,19 +108,13 @@ IsOfOne of files x = (file : File) × Contains files file × (x ≡ of file)
 pub desc_said : (s : ℕ) (files : List File) → AreDescribed s files → (kind : Kind) (body : List ℕ) → Says s files kind body
     → (x : DescBody) → read_desc kind body ≡ Some x → IsOfOne (desc_of_file s) files x
 unfolding read_desc
-desc_said s files d FileDesc body says x h =
-    let file = says.0 in
-    let reported = of_contained IsDescribed files file (each_described s files d) says.1 in
-    (file, says.1, sym (same_Some (desc_of_file s file) x (sym (ap (read_desc FileDesc) says.2 ∙ desc_written s file reported) ∙ h)))
+desc_said s files d FileDesc body says x h = (says.0, says.1, let written = desc_written s says.0 (of_contained IsDescribed files says.0 (each_described s files d) says.1) in grind (arith, written, says.2))
 desc_said s files d kind body says x h = absurd (none-some x h)
 
 pub ifsc_said : (s : ℕ) (files : List File) → AreDescribed s files → (kind : Kind) (body : List ℕ) → Says s files kind body
     → (x : IfscBody) → read_ifsc kind body ≡ Some x → IsOfOne (ifsc_of_file s) files x
 unfolding read_ifsc
-ifsc_said s files d Ifsc body says x h =
-    let file = says.0 in
-    let reported = of_contained IsDescribed files file (each_described s files d) says.1 in
-    (file, says.1, sym (same_Some (ifsc_of_file s file) x (sym (ap (read_ifsc Ifsc) says.2 ∙ ifsc_written s file reported) ∙ h)))
+ifsc_said s files d Ifsc body says x h = (says.0, says.1, let written = ifsc_written s says.0 (of_contained IsDescribed files says.0 (each_described s files d) says.1) in grind (arith, written, says.2))
 ifsc_said s files d kind body says x h = absurd (none-some x h)
 
 -- the recovery slice is the one of the files
@@ -140,10 +134,7 @@ first_one P (y ∷ xs) h x e = subst P (same_Some y x e) h.0
 -- if each item can only have one value, the items that are there have it
 all_there : {A B : Type 0} (g : A → Option B) (f : A → B) (xs : List A) → AllByRecursion (λ x. (y : B) → g x ≡ Some y → y ≡ f x) xs → (ys : List B) → all_some (map g xs) ≡ Some ys → ys ≡ map f xs
 all_there g f [] h ys e = sym (same_Some [] ys e)
-all_there {A = A} {B = B} g f (x ∷ xs) h ys e = step (g x) refl (all_some (map g xs)) (λ zs b. all_there g f xs h.1 zs b) e
-  where
-    step : (o : Option B) → g x ≡ o → (os : Option (List B)) → ((zs : List B) → os ≡ Some zs → zs ≡ map f xs) → option_and_then (λ y. option_map (λ zs. y ∷ zs) os) o ≡ Some ys → ys ≡ map f (x ∷ xs)
-    step o a os b k = grind arith
+all_there g f (x ∷ xs) h ys e = let here = h.0 in grind (arith, here, all_there g f xs h.1)
 
 -- ---- one file for each File ID
 

@@ -1,7 +1,7 @@
 //! Laws of the result of a repair, whichever call returns it: `plan_repair` of `par2_repair` or `Session::repair` of
 //! `par2_journal`, whose contracts need them. The result is the folder that is left, or a fault.
 
-ghost use Rattle.par2_spec.specs.RepairLaws.{RefusedRepairLeavesTwoLists, RepairLeavesEachFile, RepairRestoresTheFiles, RepairRestoresTheInputs};
+ghost use Rattle.par2_spec.specs.Prelude.{RefusedRepairLeavesTwoLists, RepairLeavesEachFile, RepairRestoresTheFiles, RepairRestoresTheInputs};
 
 /// A repair that returns the result of the definitions restores the files that its set was made from. `RestoresFiles`:
 /// an accepted repair leaves them all, no MD5 is wrong, and it is refused only if other slices agree as well.

@@ -2,8 +2,7 @@
 //! create was accepted, the damage changes or adds no `.par2` file, and no checksum collides. `FitsCreate`: the earlier
 //! folder is as on a disk, and its other `.par2` files are volumes of these files or have no packets of their set.
 
-ghost use Rattle.par2_spec.specs.RepairLaws.{CreatedFilesHaveAChoice, CreatedFilesMayBeRefused, RepairGivesTheCreatedFilesBack};
-ghost use Rattle.par2_spec.specs.Damage.{CreatedSetIsMadeFromItsFiles};
+ghost use Rattle.par2_spec.specs.Prelude.{CreatedFilesHaveAChoice, CreatedFilesMayBeRefused, RepairGivesTheCreatedFilesBack, CreatedSetIsMadeFromItsFiles};
 
 /// After an accepted create, and after damage that changes or adds no `.par2` file but may remove some, the set of each
 /// remaining base was made from the inputs of the create. So the laws of such sets apply to it. Nothing calls it.

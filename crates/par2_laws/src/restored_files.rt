@@ -1,7 +1,7 @@
 //! Laws of repair for sets that were made from known files, if no checksum collides: `IsTrueTo`. The contract of `run`
 //! of `par2_tool` needs them.
 
-ghost use Rattle.par2_spec.specs.RepairLaws.{AcceptedRepairLeavesTheFiles, RefusedRepairLeavesAChoice, RepairNeverFails};
+ghost use Rattle.par2_spec.specs.Prelude.{AcceptedRepairLeavesTheFiles, RefusedRepairLeavesAChoice, RepairNeverFails};
 
 /// A repair is never refused as `RepairFailed`, because each rebuilt file is the original one and has its MD5.
 pub fn repair_never_fails()

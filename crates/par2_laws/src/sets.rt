@@ -1,6 +1,6 @@
 //! Laws of sets whose packets or volumes are those of known files: they were made from these files. Nothing calls them.
 
-ghost use Rattle.par2_spec.specs.KnownFiles.{PacketsTellTheFiles, VolumesTellTheFiles};
+ghost use Rattle.par2_spec.specs.Prelude.{PacketsTellTheFiles, VolumesTellTheFiles};
 
 /// If a set can be read, and each packet with its Recovery Set ID is one of these files' packets (`AreAllOf`), the set
 /// was made from these files, in this order. Another program may have written the packets.

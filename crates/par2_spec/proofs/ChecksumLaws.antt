@@ -31,13 +31,10 @@ crc_steps-add (suc m) n c = ap (λ k. crc_steps k c) (let e : suc m + n ≡ suc 
 pub crc_steps-swap : (m n c : ℕ) → crc_steps m (crc_steps n c) ≡ crc_steps n (crc_steps m c)
 crc_steps-swap m n c = sym (crc_steps-add n m c) ∙ ap (λ k. crc_steps k c) (let e : n + m ≡ m + n = omega arith in e) ∙ crc_steps-add m n c
 
-crc_step-double : (x : ℕ) → crc_step (x * 2) ≡ x
-crc_step-double x = grind (arith, (xor_zero_r x))
-
 -- n steps remove n zero bits
 pub crc_steps-shifted : (n x : ℕ) → crc_steps n (x * 2 ^ n) ≡ x
 crc_steps-shifted zero x = let e : x * 1 ≡ x = omega arith in e
-crc_steps-shifted (suc n) x = grind (arith, (pow-suc 2 n), (mul_assoc x (2 ^ n) 2), (crc_step-double (x * 2 ^ n)), (crc_steps-shifted n x))
+crc_steps-shifted (suc n) x = grind (arith, (pow-suc 2 n), (mul_assoc x (2 ^ n) 2), xor_zero_r, (crc_steps-shifted n x))
 
 -- a low part and a high part, as a sum and as an exclusive or
 pub joined : (n high low : ℕ) → low < 2 ^ n → bit_xor low (high * 2 ^ n) ≡ high * 2 ^ n + low

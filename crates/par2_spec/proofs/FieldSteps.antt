@@ -1,7 +1,7 @@
 -- Doubling as a 16-bit shift, and powers of powers.
 use Rattle.par2_spec.proofs.Common.{ℕ, zero, suc, ◌+◌, ◌*◌, ◌%◌, ◌<◌, ◌≤◌, ◌≡◌, refl, sym, ap, ◌∙◌, arith, zero-mul, mul_comm, zero-add, xor_block, xor_zero_r, mul, pow, bit_xor}
 use Rattle.par2_spec.proofs.Basics.{product-one, power-add, power-65535, logarithm}
-use Rattle.par2_spec.proofs.FieldOrder.{double}
+use Rattle.par2_spec.proofs.FieldLaws.{double}
 
 -- doubling as the code does it
 pub double_low : (x : ℕ) → x < 32768 → double x ≡ x * 2

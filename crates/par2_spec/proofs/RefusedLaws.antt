@@ -3,7 +3,7 @@ use Rattle.par2_spec.proofs.Common.{◌≡◌, ℕ, ◌≤◌, List, [], ◌∷�
 use Rattle.std.specs.FinMap as map_of
 use Rattle.par2_spec.proofs.Basics.{sound_of, size_parts, repairable-iff}
 use Rattle.par2_spec.proofs.ExistLaws.{another_agrees}
-use Rattle.par2_spec.proofs.RestoredLaws.{true_slices_agree}
+use Rattle.par2_spec.proofs.FilesLaws.{true_slices_agree}
 use Rattle.par2_spec.proofs.AcceptedCommands.{missing, in_full, in_part}
 
 -- only the first cause returns this fault

@@ -1,5 +1,5 @@
 -- The changes of a repair lead to its folder.
-use Rattle.par2_spec.proofs.ReadLaws.{FitsRepair}
+use Rattle.par2_spec.proofs.SearchLaws.{FitsRepair}
 use Rattle.par2_spec.proofs.Common.{◌≡◌, ℕ, List, [], ◌∷◌, ◌++◌, length, map, inl, inr, refl, sym, ap, ◌∙◌, subst, cond, true, false, Bool, not, ◌&&◌, ◌||◌, take, drop, arith, filter, filter_map, zip, Option, Some, None, Ok, option_map, is_some, is_none, unwrap_or, if◌then◌else◌, concat, list_all, AllByRecursion, ForSome, bytes_eq, map-append, map-id, map-map, and_parts, and_right, or_parts, or_cases, or_left, or_right, or_from, and_from, false_from_ne_true, cases_Bool, not_from_false, false≢true, not-true, and-false, is_among, Folder, has, bytes_of, names, File, without, laid_over, Write, Rename, Remove, effects, are_applicable, ParSet, Target, set_of, target_names, candidates, known, incomplete, incomplete_names, is_incomplete, intact_names, matching, matches, aside, put_aside, files_of_slices, cut_into, rebuilt, matched_files, names_without_match, aside_files, is_par_file, par_files, after_repair_and_purge, HoldsRepaired, AreFew, taken_for, rebuilt_targets, after_repair, now_at, purge_changes, repair_changes, repair_removals}
 use Rattle.std.specs.FinMap as map_of
 use Rattle.par2_spec.proofs.Basics.{effects-append, are_applicable-append, removals_lead, same_name, itself, clash, AreDistinct, among-filter, among-append, among_some, apart_by_test, distinct-map, distinct-filter, distinct_some, image_of, image_in, distinct-append, distinct_from_std, each_there, candidates_there, sound_of, names_of_pairs, taken_was_free, taken_once, by_either, same_tests, none_if, some_if, filter-map, map-cond, all_unmap, by_test}
@@ -364,13 +364,9 @@ module _ (folder : Folder) (set : ParSet) (given : List (List ℕ)) (fits : Fits
     par_there : (q : List ℕ) → is_among (par_files folder set) q ≡ true → has folder q ≡ true
     par_there q h = has_by_names folder q ∙ (and_parts _ _ (sym (among-filter (is_par_file folder set) (names folder) q) ∙ h)).0
 
-    -- a PAR2 file that was a match is no longer there
-    par_taken : (q : List ℕ) → is_among (par_files folder set) q ≡ true → is_among taken_names q ≡ true → has (after_repair folder set given) q ≡ false
-    par_taken q i j = grind (arith, after_other, par_no_target, or_from, present_no_aside, par_there, among-append, or_right)
-
     -- the names to remove that exist after the repair are those that are removed
     removed_alike : (q : List ℕ) → has (after_repair folder set given) q ≡ true → is_among (map off left ++ par_left) q ≡ is_among (map off moved ++ par_files folder set) q
-    removed_alike q k = grind (arith, or_cases, among-append, image_of, or_left, image_in, left_moved, or_right, par_left_par, false_from_ne_true, clash, par_taken, by_either, par_left_is, and_from, not_from_false, same_tests, after_other, false≢true)
+    removed_alike q k = grind (arith, or_cases, among-append, image_of, or_left, image_in, left_moved, or_right, par_left_par, false_from_ne_true, clash, after_other, par_no_target, or_from, present_no_aside, par_there, by_either, par_left_is, and_from, not_from_false, same_tests, false≢true)
 
     removed_there : (q : List ℕ) → is_among (map off left ++ par_left) q ≡ true → has (after_repair folder set given) q ≡ true
     removed_there q h = grind (arith, among-append, or_from, heads, false_from_ne_true, clash, wanted_is_target, par_no_target, not-true, or_cases, image_of, after_other, or_left, and_parts, par_left_is, or_right, and_from, not_from_false, par_there)

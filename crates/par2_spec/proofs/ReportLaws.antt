@@ -1,7 +1,7 @@
 -- Reports, target by target.
 use Rattle.par2_spec.proofs.Common.{arith, ◌≡◌, ℕ, List, [], ◌∷◌, length, map, refl, false, flat_map, zip, Option, Ok, AllByRecursion, map-append, length-map, map-map, drop-append_seam, take-append_seam, Pair, Folder, bytes_of, ParSet, Target, set_of, is_incomplete, candidates, known, cut_into, report_of_target, report_of, found}
 use Rattle.par2_spec.proofs.Basics.{intact_found, sound_of, size_positive, sized_from_counted, present_searched}
-use Rattle.par2_spec.proofs.FoundLaws.{IsFound}
+use Rattle.par2_spec.proofs.SearchLaws.{IsFound}
 
 abbrev with_slices : Target → List (Option (List ℕ)) → Target × List (Option (List ℕ))
 with_slices t slices = (t, slices)

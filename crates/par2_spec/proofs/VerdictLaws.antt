@@ -7,7 +7,7 @@ use Rattle.par2_spec.proofs.Basics.{T-parts, repairable-iff, none_kept, all_by_t
 use Rattle.par2_spec.proofs.FullRank.{full-iff}
 use Rattle.par2_spec.proofs.RefusedLaws.{first_cause}
 use Rattle.par2_spec.proofs.AcceptedCommands.{set_in_reads}
-use Rattle.par2_spec.proofs.FoundLaws.{IsFound}
+use Rattle.par2_spec.proofs.SearchLaws.{IsFound}
 use Rattle.par2_spec.proofs.ReportLaws.{by_target, found_of, intact_are_found}
 
 -- ---- the exponents of a map increase
@@ -57,9 +57,6 @@ lost_of_complete folder base set extras reads none = unfold known in
 said : Bool → Bool → Verdict
 said a b = if a then verdict.Complete else if b then verdict.Repairable else verdict.NotRepairable
 
-said-complete : (a b : Bool) → (said a b ≡ verdict.Complete) ↔ (a ≡ true)
-said-complete a b = unfold said in grind arith
-
 said-repairable : (b : Bool) → (said false b ≡ verdict.Repairable) ↔ (b ≡ true)
 unfolding said
 said-repairable true = (λ e. refl, λ e. refl)
@@ -85,7 +82,7 @@ module _ (folder : Folder) (base : List ℕ) (extras : List (List ℕ)) (set : P
   repairable_if_full = grind (arith, full-iff, IsStrictlyIncreasing-from_sorted, sorted_keys, entries_sorted, eqb-true, eq-eqb)
 
   by_words : IsVerdict folder set searched (verdict_of (report_of folder set searched))
-  by_words = grind (arith, verdict_is, said-complete, nil-iff, said-repairable, false_from_ne_true, said, repairable_if_full)
+  by_words = unfold said in grind (arith, verdict_is, nil-iff, said-repairable, false_from_ne_true, said, repairable_if_full)
 
   is_unrepairable : is_full ≡ false → is_repairable missing (survivors set) ≡ false
   is_unrepairable less = false_from_ne_true _ (λ yes. false≢true (sym less ∙ repairable_if_full.1 ((repairable-iff missing (survivors set)).0 yes)))

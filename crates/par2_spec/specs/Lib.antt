@@ -38,3 +38,4 @@ pub mod Damage
 pub mod RepairLaws
 pub mod Answers
 pub mod Planned
+pub mod Prelude

@@ -5,13 +5,13 @@
 ghost use Rattle.par2_spec.specs.Laws.{AnotherListAgrees, RebuiltSlicesAgree, TestsSayTheWords, TwoListsAgree};
 
 /// The Boolean tests are equivalent to the definitions in words: `is_repairable` to `IsRepairable`, `kept` to `IsKept`,
-/// `agrees` to `Agrees`. `restored_slices` of `par2_repair` needs it.
+/// `agrees` to `Agrees`. `restored_files` of `par2_repair` needs it.
 pub fn tests_say_the_words()
     ensures { TestsSayTheWords }
 {}
 
 /// The rebuilt slices agree with the known slices and the recovery slices of the kept exponents if any list does. If
-/// only one list agrees, the rebuilt slices are that list. `restored_slices` of `par2_repair` needs it.
+/// only one list agrees, the rebuilt slices are that list. `restored_files` of `par2_repair` needs it.
 pub fn rebuilt_slices_agree()
     ensures { RebuiltSlicesAgree }
 {}

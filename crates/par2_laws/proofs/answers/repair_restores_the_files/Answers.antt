@@ -1,6 +1,6 @@
 use Rattle.par2_laws.proofs.Common.{◌≡◌, ◌∙◌, Some, sym, ap, subst, by_either, Memory, NotRepairable, RepairFailed}
 use Rattle.std.proofs.lemmas.Result.{IfErr-weaker, IfOk-weaker}
-use Rattle.par2_spec.specs.RepairLaws.{HasFiles}
+use Rattle.par2_spec.specs.Prelude.{HasFiles}
 use Rattle.par2_laws.proofs.Reading.{leaves_files, never_fails, has_choice}
 use Rattle.par2_laws.proofs.answers.repair_restores_the_files.Goals as goal
 

@@ -1,6 +1,6 @@
 use Rattle.par2_laws.proofs.Common.{◌≡◌, ◌∙◌, inl, inr, Some, sym, ap, subst, by_either, Memory, NotRepairable}
 use Rattle.std.proofs.lemmas.Result.{IfErr-weaker, IfOk-weaker}
-use Rattle.par2_spec.specs.RepairLaws.{KeepsFiles}
+use Rattle.par2_spec.specs.Prelude.{KeepsFiles}
 use Rattle.par2_laws.proofs.Damage.{gives_back, few_causes, leaves_choice}
 use Rattle.par2_laws.proofs.answers.repair_restores_the_inputs.Goals as goal
 
