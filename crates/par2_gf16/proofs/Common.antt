@@ -9,17 +9,11 @@ pub use Rattle.std.proofs.lemmas.Simd.{Each1-all, Each1-from_get_or, Each1-get_o
 pub use Rattle.std.specs.Int.Bits.{xor_shifted, xor_zero_l, xor_zero_r}
 pub use Rattle.std.specs.List.{filter, range_with_len}
 pub use Rattle.std.specs.Prelude.{bit_xor, drop, take}
-pub use Rattle.par2_gf16.specs.Nibbles.{AreSplit, HasNibbles}
-pub use Rattle.par2_gf16.specs.Products.{AddsProducts, AddsTo, IsInverse}
-pub use Rattle.par2_gf16.specs.WordLoops.{AddsEach, AddsLanes, AddsWithin, IsInterleaving, IsTable, LanesSoFar, lane_of}
-pub use Rattle.par2_gf16.specs.Vectors.{in_lane, word_in, word_of}
-pub use Rattle.par2_gf16.specs.Tables.{AreTables, FirstRound, LogsBelow, PowersBelow, SecondRound}
+pub use Rattle.par2_gf16.specs.Tables.{AddsProducts, AddsTo, IsInverse, AreTables, FirstRound, LogsBelow, PowersBelow, SecondRound}
+pub use Rattle.par2_gf16.specs.Words.{AddsEach, AddsLanes, IsInterleaving, IsTable, LanesSoFar, lane_of, in_lane, word_in, word_of}
 unfoldable pub use Rattle.par2_gf16.specs.Tables.{constants_below}
-pub use Rattle.par2_spec.proofs.FieldBits.{bit_cases, tested, tested_at, xor_shl}
-pub use Rattle.par2_spec.proofs.FieldOrder.{double_product, logarithm, one_inverse, power-65535, power-add, power-injective, power-lt, product-zero, zero-product}
-pub use Rattle.par2_spec.proofs.FieldProducts.{product-lt, product-one, product_assoc, product_comm, product_linear_right}
+pub use Rattle.par2_spec.proofs.FieldLaws.{bit_cases, tested, tested_at, xor_shl, double_product, logarithm, one_inverse, power-65535, power-add, power-injective, power-lt, product-zero, zero-product, product-lt, product-one, product_assoc, product_comm, product_linear_right}
 pub use Rattle.par2_spec.proofs.FieldSteps.{double_high, double_low, one-power, power-mul}
-pub use Rattle.par2_spec.proofs.TestLaws.{by_either}
-pub use Rattle.par2_spec.specs.Field.{is_coprime}
-unfoldable pub use Rattle.par2_spec.specs.Field.{constant, constant_powers, mul, pow}
-pub use Rattle.par2_spec.specs.Slices.{word}
+pub use Rattle.par2_spec.proofs.ListsLaws.{by_either}
+pub use Rattle.par2_spec.specs.Prelude.{is_coprime, word}
+unfoldable pub use Rattle.par2_spec.specs.Prelude.{constant, constant_powers, mul, pow}

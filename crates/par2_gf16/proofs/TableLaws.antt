@@ -2,7 +2,7 @@
 use Rattle.par2_gf16.proofs.Common.{ℕ, zero, suc, ◌+◌, ◌-◌, ◌*◌, ◌<◌, ◌≡◌, inl, inr, refl, sym, ap, ap₂, ◌∙◌, subst, arith, List, [], ◌∷◌, ◌++◌, length, get_or, set, length-append, length-set, add-one, map, cond, true, false, ◌/◌, ◌%◌, append-nil, cases_eq, get_or-set_same, get_or-set_other, get_or_append_left, map-append, get_or-map, length-map, mul, is_coprime, pow, constant, constant_powers, PowersBelow, LogsBelow, AreTables, FirstRound, SecondRound, constants_below, power-lt, power-add, power-65535, power-injective, logarithm, one_inverse, zero-product, product-one, power-mul, one-power, IsInverse, range_with_len, filter, by_either}
 use Rattle.std.proofs.Math.Seq.{get_or-append_seam}
 use Rattle.par2_spec.proofs.ListsLaws.{range-append}
-use Rattle.par2_spec.proofs.FieldConstants.{length-constant_powers}
+use Rattle.par2_spec.proofs.FieldLaws.{length-constant_powers}
 use Rattle.std.proofs.lemmas.List.Elements.{filter-append}
 
 next_power : (i : ℕ) → mul 2 (pow 2 i) ≡ pow 2 (i + 1)
@@ -10,23 +10,10 @@ unfolding pow
 next_power i = sym (ap (pow 2) (add-one i))
 
 pub powers_more : (powers : List ℕ) (n x : ℕ) → PowersBelow powers n → x ≡ pow 2 n → PowersBelow (powers ++ x ∷ []) (n + 1)
-powers_more powers n x so_far e = record {
-  count = length-append powers (x ∷ []) ∙ ap (λ m. m + 1) so_far.count;
-  each = λ i h. by_either (cases_eq i n)
-      (λ last. ap (λ j. get_or (powers ++ x ∷ []) j 0) (last ∙ sym so_far.count) ∙ get_or-append_seam powers x [] 0 ∙ e ∙ sym (ap (pow 2) last))
-      (λ before. get_or_append_left powers (x ∷ []) 0 i (omega (arith, so_far.count)) ∙ so_far.each i (omega arith));
-}
+powers_more powers n x so_far e = grind (arith, length-append, get_or-append_seam, get_or_append_left)
 
 pub logs_more : (logs : List ℕ) (n x : ℕ) → n < 65535 → LogsBelow logs n → x ≡ pow 2 n → LogsBelow (set logs x n) (n + 1)
-logs_more logs n x hn so_far e = record {
-  count = length-set logs x n ∙ so_far.count;
-  each = λ i h. elim (cases_eq i n) [
-    | inl last ↦ ap (λ y. get_or (set logs x n) y 0) (ap (pow 2) last ∙ sym e)
-        ∙ get_or-set_same logs x n 0 (let k : pow 2 n < 65536 = power-lt 2 n (omega arith) in omega (arith, so_far.count)) ∙ sym last
-    | inr before ↦
-        get_or-set_other logs x (pow 2 i) n 0 (λ s. power-injective i n (omega arith) hn (s ∙ e)) ∙ so_far.each i (omega arith)
-  ];
-}
+logs_more logs n x hn so_far e = grind (arith, length-set, get_or-set_same, power-lt, get_or-set_other, power-injective)
 
 coprimes_more : (n : ℕ) → filter is_coprime (range_with_len 0 (n + 1)) ≡ filter is_coprime (range_with_len 0 n) ++ filter is_coprime (n ∷ [])
 coprimes_more n =
@@ -59,12 +46,7 @@ constants_whole = ap (map (pow 2)) (coprimes_from_one 65535 refl)
 
 pub first_start : (logs : List ℕ) → length logs ≡ 65536 → FirstRound logs [] [] 1 0
 unfolding pow constants_below
-first_start logs e = record {
-  logs_are = record { count = e; each = λ i h. absurd (omega arith) };
-  powers_are = record { count = refl; each = λ i h. absurd (omega arith) };
-  constants_are = refl;
-  next = refl;
-}
+first_start logs e = grind arith
 
 pub first_pushed : (logs powers constants : List ℕ) (x y i : ℕ) → i < 65535 → FirstRound logs powers constants x i → y ≡ mul 2 x → is_coprime i ≡ true → FirstRound (set logs x i) (powers ++ x ∷ []) (constants ++ x ∷ []) y (i + 1)
 first_pushed logs powers constants x y i h so_far e coprime = record {
@@ -91,11 +73,7 @@ second_step powers x y j so_far e =
     }
 
 pub tables_made : (logs first powers constants : List ℕ) (x y i j : ℕ) → i ≡ 65535 → j ≡ 65535 → FirstRound logs first constants x i → SecondRound powers y j → AreTables logs powers constants
-tables_made logs first powers constants x y i j ei ej one two = record {
-  logs_are = subst (λ n. LogsBelow logs n) ei one.logs_are;
-  powers_are = subst (λ n. PowersBelow powers n) (let e : 65535 + j ≡ 131070 = omega arith in e) two.powers_are;
-  constants_are = one.constants_are ∙ ap constants_below ei ∙ constants_whole;
-}
+tables_made logs first powers constants x y i j ei ej one two = grind (arith, constants_whole)
 
 -- ---- the calls
 

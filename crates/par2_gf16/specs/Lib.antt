@@ -1,6 +1,2 @@
-pub mod Products
 pub mod Tables
-pub mod WordLoops
-pub mod Vectors
-pub mod Nibbles
-pub mod Columns
+pub mod Words

@@ -1,7 +1,6 @@
--- The contents of the tables.
-use Rattle.std.specs.Prelude.{ℕ, ◌+◌, ◌<◌, ◌≡◌, List, length, slice_index, map, filter}
-use Rattle.std.specs.List.{range_with_len}
-use Rattle.par2_spec.specs.Field.{pow, is_coprime, constant_powers}
+-- The tables of the field, inverses, and what is added to the words of a buffer.
+use Rattle.std.specs.Prelude.{ℕ, ◌+◌, ◌<◌, ◌≡◌, List, length, slice_index, map, filter, ◌*◌, ◌^◌, bit_xor}
+use Rattle.par2_spec.specs.Prelude.{range_with_len, pow, is_coprime, constant_powers, mul, word}
 
 -- the powers of 2 from 2 ^ 0 on
 pub record PowersBelow (powers : List ℕ) (n : ℕ) : Type 0 where
@@ -34,3 +33,17 @@ pub record FirstRound (logs powers constants : List ℕ) (x i : ℕ) : Type 0 wh
 pub record SecondRound (powers : List ℕ) (x j : ℕ) : Type 0 where
   pub powers_are : PowersBelow powers (65535 + j)
   pub next : x ≡ pow 2 (65535 + j)
+
+-- b is the one element whose product with a is 1
+pub record IsInverse (a b : ℕ) : Type 0 where
+  pub is_one : mul a b ≡ 1
+  pub only : (c : ℕ) → c < 2 ^ 16 → mul a c ≡ 1 → c ≡ b
+
+-- to each word p, `other p` is added
+pub record AddsTo (other : ℕ → ℕ) (old new : List ℕ) : Type 0 where
+  pub same_length : length new ≡ length old
+  pub each : (p : ℕ) → 2 * p + 1 < length old → word p new ≡ bit_xor (word p old) (other p)
+
+-- to each word, the product of c and the word of src is added
+abbrev pub AddsProducts : ℕ → List ℕ → List ℕ → List ℕ → Type 0
+AddsProducts c src = AddsTo (λ p. mul c (word p src))

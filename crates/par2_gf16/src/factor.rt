@@ -1,17 +1,13 @@
 //! Products of thirty-two words at a time. A word is the sum of its four nibbles, each in its place, so its product is
 //! the sum of four products, which are looked up.
 
-ghost use Rattle.std.specs.Prelude.{◌≡◌, ℕ, ◌+◌, ◌*◌, ◌/◌, ◌%◌, ◌^◌, ◌<◌, ◌≤◌, List, length, slice_index, take, drop, bit_xor};
-ghost use Rattle.std.specs.Simd.Lanes.{zip2};
-ghost use Rattle.par2_spec.specs.Field.{mul};
-ghost use Rattle.par2_gf16.specs.WordLoops.{AddsWithin, IsTable};
-ghost use Rattle.par2_gf16.specs.Nibbles.{AreNibbles, HasNibbles};
-ghost use Rattle.par2_gf16.specs.Products.{AddsTo};
-ghost use Rattle.par2_gf16.specs.Vectors.{in_lane, word_in, word_of};
+ghost use Rattle.std.specs.Prelude.{◌≡◌, ℕ, ◌*◌, ◌/◌, ◌%◌, ◌^◌, ◌<◌, slice_index};
+ghost use Rattle.par2_spec.specs.Prelude.{mul};
+ghost use Rattle.par2_gf16.specs.Words.{IsTable, lane_of, word_in, word_of};
+ghost use Rattle.par2_gf16.specs.Tables.{AddsTo};
 
-use crate::doubling::doubled;
 use crate::lanes;
-use crate::nibbles::Nibbles;
+use crate::tables::doubled;
 use crate::vectors::WordVector;
 use std::marker::Model;
 use std::simd::prelude::*;
@@ -42,10 +38,22 @@ impl NibbleProducts {
         let high = lanes::higher_bytes(products);
         NibbleProducts { element, low, high }
     }
+
+    // The products of the element and each of these nibbles.
+    #[inline(always)]
+    fn times(&self, nibbles: u8x32) -> WordVector
+        requires { (i : ℕ) → slice_index nibbles i < 16 }
+        ensures { (j : ℕ) → j < 32
+            → word_in result j ≡ mul self.now.element (slice_index nibbles (lane_of j)) }
+    {
+        WordVector {
+            low: lanes::looked_up(self.low, nibbles),
+            high: lanes::looked_up(self.high, nibbles),
+        }
+    }
 }
 
-/// An element prepared for many bytes, for `Gf::mul_add_by`: its products with the nibbles at each of the four places
-/// of a word.
+/// An element prepared for many bytes: its products with the nibbles at each of the four places of a word.
 #[derive(Drop)]
 pub struct Factor {
     first: NibbleProducts,
@@ -81,110 +89,28 @@ impl Factor {
         }
     }
 
-    /// The element, for the products of words that aren't in whole blocks.
-    #[inline(always)]
-    pub(crate) fn element(&self) -> u16
-        ensures { result ≡ self.now }
-    {
-        self.first.element
-    }
-
-    // The lower bytes of the products of the element and the thirty-two words that have these nibbles.
-    #[inline(always)]
-    fn lower_bytes(&self, nibbles: Nibbles) -> u8x32
-        ensures value { (low high : List ℕ) → AreNibbles low high nibbles
-            → result ≡ zip2 (λ l h. mul self.now (l + 256 * h) % 256) low high }
-        ensures fits { self.now < 2 ^ 16 }
-    {
-        four_looked_up(
-            self.first.low,
-            self.second.low,
-            self.third.low,
-            self.fourth.low,
-            nibbles,
-        )
-    }
-
-    // The higher bytes of the products of the element and the thirty-two words that have these nibbles.
-    #[inline(always)]
-    fn higher_bytes(&self, nibbles: Nibbles) -> u8x32
-        ensures { (low high : List ℕ) → AreNibbles low high nibbles
-            → result ≡ zip2 (λ l h. mul self.now (l + 256 * h) / 256) low high }
-    {
-        four_looked_up(
-            self.first.high,
-            self.second.high,
-            self.third.high,
-            self.fourth.high,
-            nibbles,
-        )
-    }
-
-    // The products of the element and the thirty-two words that have these nibbles.
-    #[inline(always)]
-    fn products(&self, nibbles: Nibbles) -> WordVector
-        ensures { (low high : List ℕ) → AreNibbles low high nibbles → length low ≡ 32 → length high ≡ 32
-            → (j : ℕ) → j < 32 → word_in result j ≡ mul self.now (in_lane low high j) }
-    {
-        WordVector {
-            low: self.lower_bytes(nibbles),
-            high: self.higher_bytes(nibbles),
-        }
-    }
-
     /// The products of the element and each of the words.
     #[inline(always)]
     pub fn times(&self, words: WordVector) -> WordVector
         ensures { (j : ℕ) → j < 32 → word_in result j ≡ mul self.now (word_in words j) }
     {
-        self.products(Nibbles::new(words.low, words.high))
+        let first = self.first.times(lanes::low_nibbles(words.low));
+        let second = self.second.times(lanes::high_nibbles(words.low));
+        let third = self.third.times(lanes::low_nibbles(words.high));
+        let fourth = self.fourth.times(lanes::high_nibbles(words.high));
+        first.plus(second).plus(third.plus(fourth))
     }
 
     /// Adds the product of the element and each word of the vectors to the little-endian word of `dst` at the same
-    /// position, for as many words as `dst` has.
+    /// position, for as many words as `dst` has. Words past the end of the vectors are zero. The last byte of a `dst` of
+    /// odd length isn't part of a word, and may change.
     pub fn add_products(&self, vectors: &[WordVector], dst: &mut [u8])
-        requires enough { length dst.old ≤ 64 * length vectors.now }
-        requires even { length dst.old % 2 ≡ 0 }
         ensures { AddsTo (λ p. mul self.now (word_of vectors.now p)) dst.old dst.new }
     {
-        let whole = dst.len() / 64;
-        for k in 0..whole {
+        for k in 0..dst.len().div_ceil(64).min(vectors.len()) {
             self.times(vectors[k]).add_to(dst, 32 * k);
         }
-        if whole < vectors.len() {
-            self.times(vectors[whole]).add_first(dst, 32 * whole);
-        }
     }
-
-    /// Adds the element times each of the thirty-two words of `src` from word n on to the word of `dst` there.
-    #[inline(always)]
-    pub(crate) fn add_block(&self, src: &[u8], dst: &mut [u8], n: usize)
-        requires fits { 2 * n + 64 ≤ length dst.old }
-        requires same { length src.now ≡ length dst.old }
-        ensures { AddsWithin self.now src.now dst.old dst.new n (n + 32) }
-    {
-        self.add_nibbles(nibbles_at(src, n), dst, n);
-    }
-
-    /// Adds the element times thirty-two words, which have these nibbles, to the words of `dst` from word n on.
-    #[inline(always)]
-    pub(crate) fn add_nibbles(&self, nibbles: Nibbles, dst: &mut [u8], n: usize)
-        requires fits { 2 * n + 64 ≤ length dst.old }
-        ensures { (src : List ℕ) → HasNibbles (take 64 (drop (2 * n) src)) nibbles
-            → AddsWithin self.now src dst.old dst.new n (n + 32) }
-    {
-        self.products(nibbles).add_to(dst, n);
-    }
-}
-
-/// The nibbles of the thirty-two words from word n on.
-#[inline(always)]
-pub(crate) fn nibbles_at(src: &[u8], n: usize) -> Nibbles
-    requires { 2 * n + 64 ≤ length src.now }
-    ensures { HasNibbles (take 64 (drop (2 * n) src.now)) result }
-{
-    let (low, high) = lanes::words_at(src, 2 * n);
-    Nibbles::new(low, high)
 }
 
 // The product of 16 and the element x: a nibble at the next place is 16 times as much.
@@ -193,20 +119,4 @@ fn sixteen_times(x: u16) -> u16
     ensures { result ≡ mul x 16 }
 {
     doubled(doubled(doubled(doubled(x))))
-}
-
-// The sum of four tables' entries at the nibbles of words. `first` and `second` are looked up at the lower and the
-// higher nibble of the low byte, `third` and `fourth` at those of the high byte.
-#[inline(always)]
-fn four_looked_up(first: u8x32, second: u8x32, third: u8x32, fourth: u8x32, at: Nibbles) -> u8x32
-    ensures { (f g h k : ℕ → ℕ) (low high : List ℕ) → IsTable f first
-        → IsTable g second → IsTable h third → IsTable k fourth
-        → AreNibbles low high at → result ≡ zip2 (λ x y.
-        bit_xor (bit_xor (f (x % 16)) (g (x / 16))) (bit_xor (h (y % 16)) (k (y / 16)))) low high }
-{
-    let first = lanes::looked_up(first, at.first);
-    let second = lanes::looked_up(second, at.second);
-    let third = lanes::looked_up(third, at.third);
-    let fourth = lanes::looked_up(fourth, at.fourth);
-    lanes::sum(lanes::sum(first, second), lanes::sum(third, fourth))
 }

@@ -3,10 +3,10 @@
 ghost use Rattle.std.specs.Prelude.{◌≡◌, ℕ, ◌+◌, ◌*◌, ◌/◌, ◌%◌, ◌^◌, ◌++◌, ◌<◌, ◌≤◌, length, slice_index, map, take, drop, bit_xor};
 ghost use Rattle.std.specs.List.{range_with_len};
 ghost use Rattle.std.specs.Simd.Lanes.{zip2, Each1};
-ghost use Rattle.par2_spec.specs.Field.{mul};
-ghost use Rattle.par2_gf16.specs.WordLoops.{lane_of, IsTable, IsInterleaving, AddsLanes};
+ghost use Rattle.par2_spec.specs.Prelude.{mul};
+ghost use Rattle.par2_gf16.specs.Words.{lane_of, IsTable, IsInterleaving, AddsLanes};
 
-use crate::doubling::doubled;
+use crate::tables::doubled;
 use std::simd::prelude::*;
 
 // Adds k to the sum in the lanes of v whose lowest bit is set: a step of `product_lanes`.
@@ -19,22 +19,6 @@ fn select_add(sum: u16x16, v: u16x16, k: u16) -> u16x16
     sum ^ odd.select(u16x16::splat(k), u16x16::splat(0))
 }
 
-// Each lane divided by 2, rounded down.
-#[inline(always)]
-fn halved(v: u16x16) -> u16x16
-    ensures { result ≡ map (λ x. x / 2) v }
-{
-    v >> u16x16::splat(1)
-}
-
-// A zero for each lane of `v`, which isn't read.
-#[inline(always)]
-fn zeros(v: u16x16) -> u16x16
-    ensures { result ≡ map (λ _. 0) v }
-{
-    u16x16::splat(0)
-}
-
 /// The product of c and each lane, by doubling and adding: one step for each of the `bits` bits that a lane may have.
 #[inline(always)]
 pub(crate) fn product_lanes(c: u16, v: u16x16, bits: u32) -> u16x16
@@ -42,12 +26,12 @@ pub(crate) fn product_lanes(c: u16, v: u16x16, bits: u32) -> u16x16
     requires lanes { Each1 (λ x. x < 2 ^ bits) v }
     ensures { result ≡ map (mul c) v }
 {
-    let mut sum = zeros(v);
+    let mut sum = u16x16::splat(0);
     let mut rest = v;
     let mut k = c;
     for j in 0..bits {
         sum = select_add(sum, rest, k);
-        rest = halved(rest);
+        rest = rest >> u16x16::splat(1);
         k = doubled(k);
     }
     sum

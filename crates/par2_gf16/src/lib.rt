@@ -5,16 +5,11 @@
 //! buffers of words, but no packets or files.
 #![tactic(auto)]
 
-mod columns;
-mod doubling;
 mod factor;
 mod lanes;
-mod nibbles;
 mod tables;
 mod vectors;
-mod words;
 
-pub use columns::Columns;
 pub use factor::Factor;
 pub use tables::Gf;
-pub use vectors::WordVector;
+pub use vectors::{WordVector, vectors_of};

@@ -1,15 +1,12 @@
-//! The field by tables of logarithms and powers.
+//! The field by tables of logarithms and powers. The powers of 2 come by `doubled`: a shift, reduced by the polynomial
+//! 0x1100B (PAR2 2.0).
 
 ghost use Rattle.std.specs.Prelude.{◌≡◌, ◌<◌, ◌≤◌, ◌↔◌, ◌+◌, ◌*◌, ◌/◌, ◌%◌, length, slice_index, IfOk, IfSome, IsNone};
-ghost use Rattle.par2_spec.specs.Field.{mul, pow, constant, is_coprime};
-ghost use Rattle.par2_gf16.specs.Products.{IsInverse, AddsProducts};
-ghost use Rattle.par2_gf16.specs.WordLoops.{AddsWithin};
-ghost use Rattle.par2_gf16.specs.Tables.{AreTables};
+ghost use Rattle.par2_spec.specs.Prelude.{mul, pow, constant, is_coprime};
+ghost use Rattle.par2_gf16.specs.Tables.{IsInverse, AddsProducts, AreTables};
 
-use crate::columns::Columns;
-use crate::doubling::doubled;
 use crate::factor::Factor;
-use crate::words::{add_at, word_at};
+use crate::vectors::WordVector;
 use par2_spec::Result;
 use std::alloc::Global;
 
@@ -24,15 +21,6 @@ fn blank(alloc: Global, n: usize) -> Result<Vec<u16>>
     ensures { IfOk result (λ v. length v.items ≡ n) }
 {
     vec![in alloc; 0u16; n]
-}
-
-// The entry of a table at `place`.
-#[inline(always)]
-fn entry(table: &[u16], place: usize) -> u16
-    requires { place < length table.now }
-    ensures { result ≡ slice_index table.now place }
-{
-    table[place]
 }
 
 // Whether 2 ^ n is a slice constant, which means that `n` is coprime to 65,535 (PAR2 2.0).
@@ -121,7 +109,7 @@ impl Gf {
         ensures value { IfSome result (λ c. c ≡ constant k) }
     {
         if k < CONSTANTS {
-            Some(entry(&self.constants, k as usize))
+            Some(self.constants[k as usize])
         } else {
             None
         }
@@ -137,58 +125,16 @@ impl Gf {
         self.mul_add_by(&Factor::new(c), src, dst);
     }
 
-    /// Adds to each little-endian word of `dst` the product of the factor and the word of `src`. Use it for one factor
-    /// over many buffers: a factor takes some tens of nanoseconds to compute.
+    /// Adds to each little-endian word of `dst` the product of the factor and the word of `src`, where words past its end
+    /// are zero. The last byte of a `dst` of odd length isn't part of a word, and may change. Use it for one factor over
+    /// many buffers: a factor takes some tens of nanoseconds to compute.
     pub fn mul_add_by(&self, factor: &Factor, src: &[u8], dst: &mut [u8])
-        requires same { length src.now ≡ length dst.old }
-        requires even { length dst.old % 2 ≡ 0 }
         ensures { AddsProducts factor.now src.now dst.old dst.new }
     {
-        let blocks = dst.len() / 64;
-        for block in 0..blocks {
-            factor.add_block(src, dst, 32 * block);
+        for k in 0..dst.len().min(src.len()).div_ceil(64) {
+            let words = WordVector::padded(src, 32 * k);
+            factor.times(words).add_to(dst, 32 * k);
         }
-        self.add_words(factor.element(), src, dst, 32 * blocks, dst.len() / 2);
-    }
-
-    /// Adds the product of the factor and each word of the columns to the word of `dst` at the same position. Use it
-    /// for buffers that go to many targets: the work without the factor is done once, in the columns.
-    pub fn mul_add_columns(&self, factor: &Factor, columns: &Columns, dst: &mut [u8])
-        requires room { 2 * columns.now.to ≤ length dst.old }
-        ensures { AddsWithin factor.now columns.now.bytes dst.old dst.new
-            columns.now.from columns.now.to }
-    {
-        let behind = columns.add_blocks(factor, dst);
-        self.add_words(
-            factor.element(),
-            columns.bytes(),
-            dst,
-            behind,
-            columns.end(),
-        );
-    }
-
-    // Adds c times each of the words `from` up to `to` of `src` to the word of `dst` there, one by one: for the words
-    // after the last whole block. Words past the end of the source are zero.
-    fn add_words(&self, c: u16, src: &[u8], dst: &mut [u8], from: usize, to: usize)
-        requires order { from ≤ to }
-        requires room { 2 * to ≤ length dst.old }
-        ensures { AddsWithin c src.now dst.old dst.new from to }
-    {
-        let end = src.len().div_ceil(2).min(to).max(from);
-        for i in from..end {
-            self.add_word(c, src, dst, i);
-        }
-    }
-
-    // Adds c times word i of `src` to word i of `dst`.
-    fn add_word(&self, c: u16, src: &[u8], dst: &mut [u8], i: usize)
-        requires source { 2 * i < length src.now }
-        requires room { 2 * i + 1 < length dst.old }
-        ensures { AddsWithin c src.now dst.old dst.new i (i + 1) }
-    {
-        let p = self.mul(c, word_at(src, i));
-        add_at(dst, 2 * i, p);
     }
 
     // The logarithm of `a`: the exponent, below 65,535, of the power of 2 that is `a`.
@@ -198,7 +144,7 @@ impl Gf {
         ensures below { result < 65535 }
         ensures value { pow 2 result ≡ a }
     {
-        entry(&self.logs, a as usize)
+        self.logs[a as usize]
     }
 
     // 2 to the power `n`, from the table, which reaches as far as the sum of two logarithms.
@@ -207,6 +153,18 @@ impl Gf {
         requires { n < 131070 }
         ensures { result ≡ pow 2 n }
     {
-        entry(&self.powers, n)
+        self.powers[n]
+    }
+}
+
+/// The product of 2 and the element x.
+#[inline(always)]
+pub(crate) fn doubled(x: u16) -> u16
+    ensures { result ≡ mul 2 x }
+{
+    if x & 0x8000 == 0 {
+        x << 1
+    } else {
+        (x << 1) ^ 0x100B
     }
 }

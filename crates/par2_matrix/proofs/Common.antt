@@ -9,18 +9,14 @@ pub use Rattle.std.proofs.lemmas.List.FromFn.{get_or-map-range_with_len, length-
 pub use Rattle.std.specs.Int.Bits.{xor_self, xor_zero_r}
 pub use Rattle.std.specs.List.{AllByRecursion, range_with_len}
 pub use Rattle.std.specs.Vec.{with_items}
-pub use Rattle.par2_gf16.specs.Products.{AddsProducts, IsInverse}
-pub use Rattle.par2_matrix.specs.Echelon.{AllEmpty, ClearedBelow, Echelon, IsMultiple, IsPrepared, IsReduced, Meets, PutAt, ReducedBelow, Scaled, HoldsRow, Vanishes, echelon, echelon_of, system_of}
+pub use Rattle.par2_gf16.specs.Tables.{AddsProducts, IsInverse}
+pub use Rattle.par2_matrix.specs.Echelon.{AllEmpty, Echelon, IsPrepared, IsReduced, Meets, PutAt, ReducedBelow, Scaled, HoldsRow, Vanishes, echelon_of, system_of}
 unfoldable pub use Rattle.par2_matrix.specs.Echelon.{count_present, equations}
 pub use Rattle.par2_matrix.specs.Systems.{AreSolutionBuffers, CutDown, Equations, IsDependent, IsIndependent, IsKilled, IsTheSolution, IsUndetermined, OnlyZeroIsKilled, Solves, no_equations, rank}
-pub use Rattle.par2_spec.proofs.FieldOrder.{cancel, product-zero, zero-product}
-pub use Rattle.par2_spec.proofs.FieldProducts.{product-lt, product-one, product_comm}
-pub use Rattle.par2_spec.proofs.ListsLaws.{all_at, all_from}
-pub use Rattle.par2_spec.proofs.SumLaws.{dot_sum, field_sum_one, field_sum_same, field_sum_two, product_at, row_sum-lt, row_sum_added, row_sum_empty, row_sum_scaled, row_sum_unit, xor_off, xor_same}
-pub use Rattle.par2_spec.proofs.TestLaws.{by_either}
-pub use Rattle.par2_spec.proofs.WordLaws.{bytes_at, combination_words, length-lists_of, read_at, same_buffers, word-lt, word_empty, word_past, written_changed, written_here}
-pub use Rattle.par2_spec.specs.Field.{mul}
-pub use Rattle.par2_spec.specs.Rank.{IsVector}
-pub use Rattle.par2_spec.specs.Recovery.{combination, dot}
-pub use Rattle.par2_spec.specs.Slices.{word, words}
-pub use Rattle.par2_spec.specs.Sums.{GivesElements, OneChanged, list_at, lists_of, row_sum}
+pub use Rattle.par2_spec.proofs.FieldLaws.{cancel, product-zero, zero-product, product-lt, product-one, product_comm, dot_sum, field_sum_one, field_sum_same, field_sum_two, product_at, row_sum-lt, row_sum_added, row_sum_empty, row_sum_scaled, row_sum_unit, xor_off, xor_same}
+pub use Rattle.par2_spec.proofs.ListsLaws.{all_at, all_from, by_either, bytes_at, combination_words, length-lists_of, read_at, same_buffers, word-lt, word_empty, word_past, written_changed, written_here}
+pub use Rattle.par2_spec.specs.Prelude.{mul, IsVector, combination, dot, word, words, GivesElements, OneChanged, list_at, lists_of, row_sum}
+
+-- a reduced system from its parts
+abbrev pub echelon : (columns bytes rank : ℕ) → List (List ℕ) → List (List ℕ) → Echelon
+echelon columns bytes rank rows right_sides = record { columns = columns; bytes = bytes; rank = rank; rows = rows; right_sides = right_sides }

@@ -1,11 +1,8 @@
--- The reduced row echelon form in which a system keeps its equations (Gauss-Jordan elimination): each is at the column
--- of its pivot. A row is kept as the bytes of its words, so that one kernel adds rows and buffers.
+-- Reduced row echelon form (Gauss-Jordan elimination): each equation is at the column of its pivot, its row as bytes.
 use Rattle.std.specs.Prelude.{ℕ, zero, suc, ◌+◌, ◌*◌, ◌^◌, ◌%◌, ◌<◌, ◌≤◌, ◌≡◌, ◌≢◌, bit_xor, List, [], ◌∷◌, length, slice_index, slice_index_or, Vec, if◌then◌else◌, ◌==◌}
 use Rattle.std.specs.declared.alloc.Global.{Global}
-use Rattle.par2_spec.specs.Field.{mul}
-use Rattle.par2_spec.specs.Slices.{word, words}
+use Rattle.par2_spec.specs.Prelude.{mul, word, words, GivesElements, row_sum, list_at, lists_of}
 use Rattle.par2_matrix.specs.Systems.{Equations}
-use Rattle.par2_spec.specs.Sums.{OneChanged, GivesElements, row_sum, list_at, lists_of}
 
 -- for each column, the row and the right-hand side of the equation with this pivot, or two empty lists
 pub record Echelon : Type 0 where
@@ -15,13 +12,9 @@ pub record Echelon : Type 0 where
   pub rows : List (List ℕ)
   pub right_sides : List (List ℕ)
 
--- a reduced system from its parts
-abbrev pub echelon : (columns bytes rank : ℕ) → List (List ℕ) → List (List ℕ) → Echelon
-echelon columns bytes rank rows right_sides = record { columns = columns; bytes = bytes; rank = rank; rows = rows; right_sides = right_sides }
-
--- a reduced system from the vectors of the code; it has as many columns as rows, because an absent row is empty
+-- a reduced system from the code's vectors: as many columns as rows, because an absent row is empty
 abbrev pub echelon_of : (bytes rank : ℕ) → List (Vec ℕ Global) → List (Vec ℕ Global) → Echelon
-echelon_of bytes rank rows right_sides = echelon (length rows) bytes rank (lists_of rows) (lists_of right_sides)
+echelon_of bytes rank rows right_sides = record { columns = length rows; bytes = bytes; rank = rank; rows = lists_of rows; right_sides = lists_of right_sides }
 
 -- the kept equations, in the order of their pivots
 unfoldable pub equations : List (List ℕ) → List (List ℕ) → List (List ℕ × List ℕ)
@@ -39,8 +32,7 @@ unfoldable pub count_present : List (List ℕ) → ℕ → ℕ
 count_present rows zero = 0
 count_present rows (suc n) = count_present rows n + (if length (list_at rows n) == 0 then 0 else 1)
 
--- reduced row echelon form: each equation is at its pivot, where its coefficient is 1 and that of every other equation
--- is 0
+-- each equation is at its pivot, where its coefficient is 1 and that of every other equation is 0
 pub record IsReduced (e : Echelon) : Type 0 where
   pub row_count : length e.rows ≡ e.columns
   pub right_count : length e.right_sides ≡ e.columns
@@ -66,8 +58,6 @@ IsImplied e row = (f : ℕ → ℕ) → GivesElements f → Vanishes e f → row
 abbrev pub Meets : Echelon → ℕ → (ℕ → ℕ) → Type 0
 Meets e w f = (p : ℕ) → p < e.columns → row_sum e.columns (list_at e.rows p) f ≡ word w (list_at e.right_sides p)
 
--- ---- words
-
 -- word i is x, and the other words are unchanged
 pub record WordPut (i x : ℕ) (old new : List ℕ) : Type 0 where
   pub same_length : length new ≡ length old
@@ -85,8 +75,6 @@ pub record Scaled (c : ℕ) (old new : List ℕ) (n : ℕ) : Type 0 where
   pub each : (i : ℕ) → i < n → 2 * i + 1 < length old → word i new ≡ mul c (word i old)
   pub above : (i : ℕ) → n ≤ i → word i new ≡ word i old
 
--- ---- the steps of an offer
-
 -- the old equation became the new one by adding multiples of the equations of e whose pivots are below n
 pub record ReducedBelow (e : Echelon) (old_row old_right row right : List ℕ) (n : ℕ) : Type 0 where
   pub row_size : length row ≡ 2 * e.columns
@@ -95,14 +83,6 @@ pub record ReducedBelow (e : Echelon) (old_row old_right row right : List ℕ) (
   pub kills : (f : ℕ → ℕ) → GivesElements f → Vanishes e f → row_sum e.columns row f ≡ row_sum e.columns old_row f
   pub solves : (f : ℕ → ℕ) (w : ℕ) → GivesElements f → 2 * w + 1 < e.bytes → Meets e w f
       → bit_xor (row_sum e.columns row f) (word w right) ≡ bit_xor (row_sum e.columns old_row f) (word w old_right)
-
--- an equation, and a multiple of it by a nonzero factor
-pub record IsMultiple (n b : ℕ) (row1 right1 row right : List ℕ) : Type 0 where
-  pub factor : ℕ
-  pub positive : 0 < factor
-  pub is_element : factor < 2 ^ 16
-  pub entries : (i : ℕ) → i < n → word i row ≡ mul factor (word i row1)
-  pub buffers : (w : ℕ) → 2 * w + 1 < b → word w right ≡ mul factor (word w right1)
 
 -- the equation is reduced and scaled, and ready to get its pivot in column q
 pub record IsPrepared (e : Echelon) (row0 right0 row right : List ℕ) (q : ℕ) : Type 0 where
@@ -115,38 +95,29 @@ pub record IsPrepared (e : Echelon) (row0 right0 row right : List ℕ) (q : ℕ)
   pub nonzero : word q row1 ≢ 0
   pub bytes1 : (k : ℕ) → slice_index row1 k < 2 ^ 8
   pub right_bytes1 : (k : ℕ) → slice_index right1 k < 2 ^ 8
-  pub multiple : IsMultiple e.columns e.bytes row1 right1 row right
+  pub factor : ℕ
+  pub is_element : factor < 2 ^ 16
+  pub entries : (i : ℕ) → i < e.columns → word i row ≡ mul factor (word i row1)
+  pub buffers : (w : ℕ) → 2 * w + 1 < e.bytes → word w right ≡ mul factor (word w right1)
   pub row_size : length row ≡ 2 * e.columns
   pub right_size : length right ≡ e.bytes
   pub pivot : word q row ≡ 1
 
--- multiples of the new equation were added to the equations below n, so that their column q is zero
-pub record ClearedBelow (q : ℕ) (row right : List ℕ) (old_rows old_right_sides rows right_sides : List (List ℕ)) (n : ℕ) : Type 0 where
-  pub row_count : length rows ≡ length old_rows
-  pub right_count : length right_sides ≡ length old_right_sides
-  pub row_sizes : (p : ℕ) → length (list_at rows p) ≡ length (list_at old_rows p)
-  pub right_sizes : (p : ℕ) → length (list_at right_sides p) ≡ length (list_at old_right_sides p)
-  pub entries : (p i : ℕ) → p < n → 2 * i + 1 < length (list_at old_rows p)
-      → word i (list_at rows p) ≡ bit_xor (word i (list_at old_rows p)) (mul (word q (list_at old_rows p)) (word i row))
-  pub buffers : (p w : ℕ) → p < n → 2 * w + 1 < length (list_at old_right_sides p)
-      → word w (list_at right_sides p) ≡ bit_xor (word w (list_at old_right_sides p)) (mul (word q (list_at old_rows p)) (word w right))
-  pub are_bytes : (p k : ℕ) → slice_index (list_at right_sides p) k < 2 ^ 8
-  pub rows_above : (p : ℕ) → n ≤ p → list_at rows p ≡ list_at old_rows p
-  pub right_sides_above : (p : ℕ) → n ≤ p → list_at right_sides p ≡ list_at old_right_sides p
-
 -- column q of the other equations was cleared, and the new equation was put there
 pub record PutAt (q : ℕ) (row right : List ℕ) (old_rows old_right_sides rows right_sides : List (List ℕ)) : Type 0 where
-  pub cleared_rows : List (List ℕ)
-  pub cleared_right_sides : List (List ℕ)
-  pub cleared : ClearedBelow q row right old_rows old_right_sides cleared_rows cleared_right_sides (length old_rows)
   pub at_row : list_at rows q ≡ row
   pub at_right : list_at right_sides q ≡ right
   pub row_bytes : (k : ℕ) → slice_index row k < 2 ^ 8
   pub right_bytes : (k : ℕ) → slice_index right k < 2 ^ 8
-  pub other_rows : OneChanged cleared_rows rows q
-  pub other_right_sides : OneChanged cleared_right_sides right_sides q
-
--- ---- a system without equations
+  pub row_count : length rows ≡ length old_rows
+  pub right_count : length right_sides ≡ length old_right_sides
+  pub row_sizes : (p : ℕ) → p ≢ q → length (list_at rows p) ≡ length (list_at old_rows p)
+  pub right_sizes : (p : ℕ) → p ≢ q → length (list_at right_sides p) ≡ length (list_at old_right_sides p)
+  pub entries : (p i : ℕ) → p ≢ q → p < length old_rows → 2 * i + 1 < length (list_at old_rows p)
+      → word i (list_at rows p) ≡ bit_xor (word i (list_at old_rows p)) (mul (word q (list_at old_rows p)) (word i row))
+  pub buffers : (p w : ℕ) → p ≢ q → p < length old_rows → 2 * w + 1 < length (list_at old_right_sides p)
+      → word w (list_at right_sides p) ≡ bit_xor (word w (list_at old_right_sides p)) (mul (word q (list_at old_rows p)) (word w right))
+  pub are_bytes : (p k : ℕ) → p ≢ q → slice_index (list_at right_sides p) k < 2 ^ 8
 
 -- n empty lists
 pub record AllEmpty {A : Type 0} (lists : List (List A)) (n : ℕ) : Type 0 where

@@ -1,14 +1,11 @@
--- Systems of linear equations over the field, whose unknowns are buffers. The words at each position are a system of
--- their own between elements. An equation is a row of coefficients, one for each unknown, and its right-hand side: the
--- buffer that the combination of the unknowns by this row has to be.
+-- Linear equations over the field between buffers: a row of coefficients, one for each unknown buffer, and the buffer
+-- that the combination of the unknowns by this row has to be. The words at each position are a system of their own.
 use Rattle.std.specs.Prelude.{ℕ, ◌+◌, ◌<◌, ◌≡◌, ◌≢◌, ◌↔◌, List, [], length}
-use Rattle.std.specs.List.{AllByRecursion}
-use Rattle.par2_spec.specs.Recovery.{dot, combination}
-use Rattle.par2_spec.specs.Rank.{IsVector}
-pub use Rattle.par2_spec.specs.Sums.{lists_of}
+use Rattle.par2_spec.specs.Prelude.{AllByRecursion, dot, combination, IsVector}
+pub use Rattle.par2_spec.specs.Prelude.{lists_of}
 
--- what a contract sees of a system: the number of unknown buffers, the size of each, and equations equivalent to those
--- that were kept. They have a meaning only by their null space and their solutions
+-- a system: the number of unknown buffers, the size of each, and equations equivalent to those that were kept, which have
+-- a meaning only by their null space and their solutions
 pub record Equations : Type 0 where
   pub columns : ℕ
   pub bytes : ℕ
@@ -43,11 +40,8 @@ pub record CutDown (old new : Equations) (row right : List ℕ) : Type 0 where
   pub solves : (buffers : List (List ℕ)) → AreSolutionBuffers old buffers → Solves new buffers ↔ (Solves old buffers × (combination old.bytes row buffers ≡ right))
 
 -- the row is independent: it does not kill some vector of the null space
-pub record IsIndependent (s : Equations) (row : List ℕ) : Type 0 where
-  pub vector : List ℕ
-  pub is_vector : IsVector s.columns vector
-  pub killed : IsKilled s vector
-  pub not_killed : dot row vector ≢ 0
+abbrev pub IsIndependent : Equations → List ℕ → Type 0
+IsIndependent s row = (v : List ℕ) × IsVector s.columns v × IsKilled s v × (dot row v ≢ 0)
 
 -- the row is dependent: it kills the whole null space
 abbrev pub IsDependent : Equations → List ℕ → Type 0
@@ -58,11 +52,8 @@ abbrev pub OnlyZeroIsKilled : Equations → Type 0
 OnlyZeroIsKilled s = (v : List ℕ) → IsVector s.columns v → IsKilled s v → AllByRecursion (λ x. x ≡ 0) v
 
 -- the null space has another vector than zero, so the equations do not determine the buffers
-pub record IsUndetermined (s : Equations) : Type 0 where
-  pub vector : List ℕ
-  pub is_vector : IsVector s.columns vector
-  pub killed : IsKilled s vector
-  pub not_zero : AllByRecursion (λ x. x ≡ 0) vector → ⊥
+abbrev pub IsUndetermined : Equations → Type 0
+IsUndetermined s = (v : List ℕ) × IsVector s.columns v × IsKilled s v × (AllByRecursion (λ x. x ≡ 0) v → ⊥)
 
 -- the only buffers that solve the system
 pub record IsTheSolution (s : Equations) (buffers : List (List ℕ)) : Type 0 where

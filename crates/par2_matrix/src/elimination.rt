@@ -1,13 +1,12 @@
 //! The steps of Gauss-Jordan elimination. For an offered equation, `prepare` subtracts the kept ones and scales it, and
 //! `put_in` clears its pivot's column in the kept ones and stores it. Rows and right-hand sides are bytes: element `i`
 //! of a row is the little-endian word at `2 * i`, so that one kernel adds both.
-ghost use Rattle.std.specs.Prelude.{◌≡◌, ◌≢◌, ℕ, ◌+◌, ◌*◌, ◌%◌, ◌^◌, ◌<◌, length, slice_index, IfSome, IfOk, IsNone};
-ghost use Rattle.par2_spec.specs.Slices.{word};
-ghost use Rattle.par2_gf16.specs.Products.{AddsProducts};
-ghost use Rattle.par2_matrix.specs.Echelon.{Scaled, ReducedBelow, IsReduced, IsImplied, IsMultiple, IsPrepared, ClearedBelow, PutAt, AllEmpty, echelon_of};
-ghost use Rattle.par2_spec.specs.Sums.{OneChanged, lists_of, list_at};
 
-use crate::elements::{element, put_element};
+ghost use Rattle.std.specs.Prelude.{◌≡◌, ◌≢◌, ℕ, ◌+◌, ◌*◌, ◌^◌, ◌<◌, length, slice_index, IfSome, IfOk, IsNone};
+ghost use Rattle.par2_spec.specs.Prelude.{word, OneChanged, lists_of, list_at};
+ghost use Rattle.par2_gf16.specs.Tables.{AddsProducts};
+ghost use Rattle.par2_matrix.specs.Echelon.{Scaled, ReducedBelow, IsReduced, IsImplied, IsPrepared, PutAt, AllEmpty, echelon_of, WordPut, HoldsRow};
+
 use par2_gf16::{Factor, Gf};
 use par2_spec::Result;
 use std::alloc::Global;
@@ -62,8 +61,9 @@ fn reduce(gf: &Gf, rows: &[Vec<u8>], right_sides: &[Vec<u8>], row: &mut [u8], ri
         let factor = element(row, p);
         let source = list_at(rows, p);
         if factor != 0 && !source.is_empty() {
-            add_multiple(gf, factor, source, row);
-            add_multiple(gf, factor, list_at(right_sides, p), right);
+            let multiple = Factor::new(factor);
+            gf.mul_add_by(&multiple, source, row);
+            gf.mul_add_by(&multiple, list_at(right_sides, p), right);
         }
     }
 }
@@ -79,25 +79,6 @@ fn first_nonzero(row: &[u8]) -> Option<usize>
         }
     }
     None
-}
-
-// Scales the equation so that its element at q is 1, as that of a pivot must be.
-#[tactic(auto, using(crate::proofs::Taking::multiple_of, crate::proofs::Taking::pivot_is))]
-fn normalize(gf: &Gf, row: &mut [u8], right: &mut [u8], q: usize)
-    // The element at q is not 0.
-    requires place { 2 * q + 1 < length row.old }
-    requires nonzero { word q row.old ≢ 0 }
-    // The equation is multiplied by the inverse of this element, so that the new one is 1.
-    ensures multiple { (n : ℕ) → length row.old ≡ 2 * n
-        → IsMultiple n (length right.old) row.old right.old row.new right.new }
-    ensures pivot { word q row.new ≡ 1 }
-    // The sizes are unchanged.
-    ensures row_size { length row.new ≡ length row.old }
-    ensures right_size { length right.new ≡ length right.old }
-{
-    let factor = gf.inv(element(row, q)).unwrap();
-    scale(gf, factor, row);
-    scale(gf, factor, right);
 }
 
 /// Reduces an equation by the kept ones and scales it to a pivot of 1. Returns the column of the pivot, or nothing if
@@ -125,61 +106,23 @@ pub(crate) fn prepare(
     fit_bytes(row);
     fit_bytes(right);
     let q = first_nonzero(row)?;
-    normalize(gf, row, right, q);
+    let inverse = gf.inv(element(row, q)).unwrap();
+    scale(gf, inverse, row);
+    scale(gf, inverse, right);
     Some(q)
 }
 
-// Adds `factor` times each word of `src` to the word of list `p` at the same place.
-fn add_row(gf: &Gf, lists: &mut [Vec<u8>], p: usize, factor: u16, src: &[u8])
-    // The list is as long as the source, and both are whole words.
-    requires place { p < length lists.old }
-    requires same { length src.now ≡ length (list_at (lists_of lists.old) p) }
-    requires even { length src.now % 2 ≡ 0 }
-    // The products are added to this list, and no other one changes.
+// Adds the factor times each word of `src` to the word of list `p` at the same place, and changes no other list.
+fn add_row(gf: &Gf, lists: &mut [Vec<u8>], p: usize, factor: &Factor, src: &[u8])
+    requires { p < length lists.old }
     ensures changed { OneChanged (lists_of lists.old) (lists_of lists.new) p }
-    ensures added { AddsProducts factor src.now (list_at (lists_of lists.old) p)
+    ensures added { AddsProducts factor.now src.now (list_at (lists_of lists.old) p)
         (list_at (lists_of lists.new) p) }
     ensures bytes { (k : ℕ) → slice_index (list_at (lists_of lists.new) p) k < 2 ^ 8 }
 {
-    add_multiple(gf, factor, src, lists[p].as_mut_slice());
-}
-
-// Adds `factor` times each word of `src` to the word of `dst` at the same place.
-#[inline(always)]
-fn add_multiple(gf: &Gf, factor: u16, src: &[u8], dst: &mut [u8])
-    requires same { length src.now ≡ length dst.old }
-    requires even { length dst.old % 2 ≡ 0 }
-    ensures added { AddsProducts factor src.now dst.old dst.new }
-    ensures bytes { (k : ℕ) → slice_index dst.new k < 2 ^ 8 }
-{
-    gf.mul_add_by(&Factor::new(factor), src, dst);
-}
-
-// Makes column q zero in each kept equation, by adding multiples of the new one, `row` and `right`.
-fn clear(
-    gf: &Gf,
-    rows: &mut [Vec<u8>],
-    right_sides: &mut [Vec<u8>],
-    q: usize,
-    row: &[u8],
-    right: &[u8],
-)
-    ghost rank: { ℕ }
-    requires place { q < length rows.old }
-    requires size { length row.now ≡ 2 * length rows.old }
-    requires reduced { IsReduced (echelon_of (length right.now) rank rows.old right_sides.old) }
-    ensures { ClearedBelow q row.now right.now (lists_of rows.old) (lists_of right_sides.old)
-        (lists_of rows.new) (lists_of right_sides.new) (length rows.old) }
-{
-    let columns = rows.len();
-    for p in 0..columns {
-        let target = list_at(rows, p);
-        if !target.is_empty() {
-            let factor = element(target, q);
-            add_row(gf, rows, p, factor, row);
-            add_row(gf, right_sides, p, factor, right);
-        }
-    }
+    let list = lists[p].as_mut_slice();
+    gf.mul_add_by(factor, src, list);
+    fit_bytes(list);
 }
 
 /// Makes column q zero in each kept equation, and stores the new equation there.
@@ -198,9 +141,47 @@ pub(crate) fn put_in(
     ensures { PutAt q row.items right.items (lists_of rows.old) (lists_of right_sides.old)
         (lists_of rows.new) (lists_of right_sides.new) }
 {
-    clear(gf, rows, right_sides, q, &row, &right);
+    for p in 0..rows.len() {
+        let target = list_at(rows, p);
+        if !target.is_empty() {
+            let factor = Factor::new(element(target, q));
+            add_row(gf, rows, p, &factor, &row);
+            add_row(gf, right_sides, p, &factor, &right);
+        }
+    }
     fit_bytes(&row);
     fit_bytes(&right);
     rows[q] = row;
     right_sides[q] = right;
+}
+
+/// Element `i` of a row.
+#[inline(always)]
+pub fn element(row: &[u8], i: usize) -> u16
+    requires { 2 * i + 1 < length row.now }
+    ensures { result ≡ word i row.now }
+{
+    u16::from_le_bytes([row[2 * i], row[2 * i + 1]])
+}
+
+/// Sets element `i` of a row, and changes no other byte.
+#[inline(always)]
+pub fn put_element(row: &mut [u8], i: usize, element: u16)
+    requires { 2 * i + 1 < length row.old }
+    ensures { WordPut i element row.old row.new }
+{
+    let [low, high] = element.to_le_bytes();
+    row[2 * i] = low;
+    row[2 * i + 1] = high;
+}
+
+/// The bytes of a row of elements, as `System` keeps rows. Fails only when memory runs out.
+pub fn bytes_of_row(alloc: Global, row: &[u16]) -> Result<Vec<u8>>
+    ensures { IfOk result (λ bytes. HoldsRow row.now bytes.items (length row.now)) }
+{
+    let mut bytes = vec![in alloc; 0u8; 2 * row.len()]?;
+    for i in 0..row.len() {
+        put_element(&mut bytes, i, row[i]);
+    }
+    Ok(bytes)
 }

@@ -4,9 +4,8 @@
 //! `par2_solve` uses it, and it uses `par2_gf16`. It knows no slices, exponents or files.
 #![tactic(auto)]
 
-mod elements;
 mod elimination;
 mod system;
 
-pub use elements::{bytes_of_row, element, put_element};
+pub use elimination::{bytes_of_row, element, put_element};
 pub use system::{Offer, System};

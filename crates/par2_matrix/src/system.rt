@@ -3,8 +3,7 @@
 ghost use Rattle.std.specs.Prelude.{◌≡◌, ◌≢◌, ◌%◌, ◌<◌, ◌≤◌, ◌↔◌, length, IsOk, IfOk, IfErr, Ok};
 ghost use Rattle.par2_matrix.specs.Systems.{Equations, lists_of, rank, no_equations, CutDown, IsIndependent, IsDependent, IsUndetermined, OnlyZeroIsKilled, IsTheSolution};
 
-use crate::elements::bytes_of_row;
-use crate::elimination::{empty_lists, prepare, put_in};
+use crate::elimination::{bytes_of_row, empty_lists, prepare, put_in};
 use par2_gf16::Gf;
 use par2_spec::Result;
 use std::alloc::Global;

@@ -20,34 +20,16 @@ pub use Rattle.std.specs.Prelude.{IfErr, IfSome, IsNone, IsPermutation, None, Ok
 pub use Rattle.std.specs.Vec.{with_items}
 pub use Rattle.par2_matrix.specs.Systems.{AreSolutionBuffers, CutDown, Equations, IsDependent, IsIndependent, IsTheSolution, OnlyZeroIsKilled, Solves}
 pub use Rattle.par2_matrix.specs.declared.system.Offer.TheVariants.{Dependent, Kept}
-pub use Rattle.par2_solve.specs.Inverses.{AreByteRows, AreScaledQuotients, BeginsWithRun, IsEliminated, IsInverseMatrix, IsScaledQuotient, IsUnit, identity}
-pub use Rattle.par2_solve.specs.BufferContents.{Adds, AddsSource, AreBlank, AreByteLists, AreExtended, AreProducts, AreRun, AreSolved, AreSums, all_coefficients, buffers_of, chunk, products, syndrome}
+pub use Rattle.par2_solve.specs.BufferContents.{AreByteRows, IsEliminated, IsInverseMatrix, IsUnit, identity, Adds, AddsSource, AreBlank, AreByteLists, AreExtended, AreProducts, AreSolved, AreSums, byte_lists, chunk, products, syndrome}
 pub use Rattle.par2_solve.specs.Rebuilding.{AreRebuilt, CanRebuild, IsTrueFault, bytes_or_none, exponents_of, known_alone, known_among, known_of, lost_from, recovered_of, with_exponents, with_lost_slices}
-pub use Rattle.par2_spec.proofs.FieldConstants.{constant-injective, constant-lt, constant-nonzero, length-constant_powers}
-pub use Rattle.par2_spec.proofs.FieldOrder.{no_zero_divisor, power-lt, product-zero, zero-product}
-pub use Rattle.par2_spec.proofs.FieldProducts.{product-lt, product-one, product_assoc, product_comm, product_linear_left, product_linear_right}
-pub use Rattle.par2_spec.proofs.FoundLaws.{all-filter}
-pub use Rattle.par2_spec.proofs.ListsLaws.{all-append, all-each, all-map, all-parts, all_at, all_from, all_get, all_unmap, filter-map, some_list}
-pub use Rattle.par2_spec.proofs.PolynomialLaws.{length-quotient, length-with_roots, quotient_elements, quotient_itself, quotient_others, times_elements, value-lt, value_times, with_roots_elements}
-pub use Rattle.par2_spec.proofs.RunLaws.{close_kept, run_determines, run_rank}
-pub use Rattle.par2_spec.proofs.SumLaws.{dot_sum, field_sum-lt, field_sum_head, field_sum_none, field_sum_one, field_sum_same, field_sum_scaled, field_sum_xor, product_at, xor_off}
-pub use Rattle.par2_spec.proofs.UniqueLaws.{agreeing_are_one, coefficients_are, dot-lt, words_are}
-pub use Rattle.par2_spec.proofs.WordLaws.{bytes_at, combination_words, length-lists_of, read_at, word-lt, written_changed, written_here}
-pub use Rattle.par2_spec.specs.Field.{constant_powers, mul}
-unfoldable pub use Rattle.par2_spec.specs.Field.{coefficient, constant, pow}
-pub use Rattle.par2_spec.specs.Polynomials.{ArePoints, times, times_root}
-unfoldable pub use Rattle.par2_spec.specs.Polynomials.{plus, quotient, value, with_roots}
-pub use Rattle.par2_spec.specs.Rank.{Agrees, IsRepairable, IsVector, Kills, kept, kept_slices, kills, rank, smaller}
-unfoldable pub use Rattle.par2_spec.specs.Rank.{is_independent}
-pub use Rattle.par2_spec.specs.Recovery.{coefficients, combination}
-unfoldable pub use Rattle.par2_spec.specs.Recovery.{dot, recovery}
-pub use Rattle.par2_spec.specs.Runs.{AreClose, AreSlices, HasRun}
-pub use Rattle.par2_spec.specs.Search.{lost}
-pub use Rattle.par2_spec.specs.Slices.{padded, word}
-pub use Rattle.par2_spec.specs.Sums.{GivesElements, list_at, lists_of}
-unfoldable pub use Rattle.par2_spec.specs.Sums.{field_sum}
-pub use Rattle.par2_gf16.proofs.Parts.{zeros_read}
-pub use Rattle.par2_transform.proofs.AddingLaws.{adds_more, adds_same, still_within, within-in, within_joined, within_same}
-pub use Rattle.par2_transform.proofs.GroupLaws.{adds_to_group, group_within, length-group}
-pub use Rattle.par2_transform.specs.Adding.{AddsAt, AddsToEach, AreApart, LieWithin, place_at, within}
-pub use Rattle.par2_transform.specs.Columns.{recovered}
+pub use Rattle.par2_spec.proofs.FieldLaws.{constant-injective, constant-lt, constant-nonzero, length-constant_powers, no_zero_divisor, power-lt, product-zero, zero-product, product-lt, product-one, product_assoc, product_comm, product_linear_left, product_linear_right, dot_sum, field_sum-lt, field_sum_head, field_sum_none, field_sum_one, field_sum_same, field_sum_scaled, field_sum_xor, product_at, xor_off}
+pub use Rattle.par2_spec.proofs.SearchLaws.{all-filter}
+pub use Rattle.par2_spec.proofs.ListsLaws.{by_either, all-append, all-each, all-map, all-parts, all_at, all_from, all_get, all_unmap, filter-map, some_list, bytes_at, combination_words, length-lists_of, read_at, word-lt, written_changed, written_here}
+pub use Rattle.par2_spec.proofs.UniqueLaws.{length-quotient, length-with_roots, quotient_elements, quotient_itself, quotient_others, times_elements, value-lt, value_times, with_roots_elements, agreeing_are_one, coefficients_are, dot-lt, words_are}
+pub use Rattle.par2_spec.proofs.FullRank.{close_kept, run_determines, run_rank}
+pub use Rattle.par2_spec.specs.Prelude.{constant_powers, mul, ArePoints, times, times_root, Agrees, IsRepairable, IsVector, Kills, kept, kept_slices, kills, rank, smaller, coefficients, combination, AreClose, AreSlices, HasRun, lost, padded, word, GivesElements, list_at, lists_of}
+unfoldable pub use Rattle.par2_spec.specs.Prelude.{coefficient, constant, pow, plus, quotient, value, with_roots, is_independent, dot, recovery, field_sum}
+pub use Rattle.par2_gf16.proofs.Words.{zeros_read}
+pub use Rattle.par2_transform.proofs.Additions.{adds_more, adds_same, still_within, within-in, within_joined, within_same, adds_to_group, group_within, length-group}
+pub use Rattle.par2_transform.specs.Rows.{AddsAt, AddsToEach, AreApart, LieWithin, place_at, within}
+pub use Rattle.par2_transform.specs.Chirps.{recovered}

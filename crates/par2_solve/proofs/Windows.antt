@@ -1,22 +1,29 @@
--- The equations of the holes between exponents.
-use Rattle.par2_solve.proofs.Common.{rules, ℕ, zero, suc, ◌+◌, ◌-◌, ◌^◌, ◌<◌, ◌≤◌, ◌≡◌, refl, sym, ap, ap₂, ◌∙◌, ◌↔◌, subst, arith, Bool, true, false, cond, not, inl, inr, List, [], ◌∷◌, ◌++◌, length, get_or, map, filter, take, append-nil, bit_xor, xor_comm, xor_assoc, xor_zero_l, xor_zero_r, AllByRecursion, Contains, range_with_len, IsStrictlyIncreasing, Result, Ok, cases_lt, cases_eq, eqb-true, lt-ltb, le-ltb, false_from_ne_true, length-map, get_or-map, get_or-range_with_len, get_or-map-range_with_len, length-map-range_with_len, length-range_with_len, map-range_with_len_more, Contains-get_or, mul, constant, pow, coefficient, coefficients, dot, field_sum, dot_sum, product_at, dot-lt, coefficients_are, field_sum_same, field_sum_none, product-zero, zero-product, IsVector, IsRepairable, Kills, AreSlices, value, with_roots_elements, length-with_roots, all_at, all_get, all_from, all_unmap, all-each, run_determines, rank, Equations, CutDown, OnlyZeroIsKilled, AreSolutionBuffers, combination, ◌*◌}
+-- The holes between exponents: their equations, the syndromes that solve these, the kept exponents, and the numbers of lost slices.
+use Rattle.par2_solve.proofs.Common.{zero-add, by_either, rules, ℕ, zero, suc, ◌+◌, ◌-◌, ◌^◌, ◌<◌, ◌≤◌, ◌≡◌, refl, sym, ap, ap₂, ◌∙◌, ◌↔◌, subst, arith, Bool, true, false, cond, not, inl, inr, List, [], ◌∷◌, ◌++◌, length, get_or, map, filter, take, append-nil, bit_xor, xor_comm, xor_assoc, xor_zero_l, xor_zero_r, AllByRecursion, Contains, range_with_len, IsStrictlyIncreasing, Result, Ok, cases_lt, cases_eq, eqb-true, lt-ltb, le-ltb, false_from_ne_true, length-map, get_or-map, get_or-range_with_len, get_or-map-range_with_len, length-map-range_with_len, length-range_with_len, map-range_with_len_more, Contains-get_or, mul, constant, pow, coefficient, coefficients, dot, field_sum, dot_sum, product_at, dot-lt, coefficients_are, field_sum_same, field_sum_none, product-zero, zero-product, IsVector, IsRepairable, Kills, AreSlices, value, with_roots_elements, length-with_roots, all_at, all_get, all_from, all_unmap, all-each, run_determines, rank, Equations, CutDown, OnlyZeroIsKilled, AreSolutionBuffers, combination, ◌*◌, AreByteRows, IsTheSolution, false≢true, get_or-take, length-reverse, get_or_past, get_or-reverse, length-take-le, product_comm, product-one, field_sum_head, GivesElements, slice_index, identity, list_at, lists_of, word, word-lt, words_are, AreByteLists, AreProducts, AreSums, AreSolved, products, Option, Some, None, ext_get_or, kept, is_independent, lost_from}
 use Rattle.std.specs.Result.{IsOk, MatchResult, is_ok}
-use Rattle.std.specs.Prelude.{Err, nat_eq}
-use Rattle.std.proofs.lemmas.List.{get_or_past, map-id}
+use Rattle.std.specs.Prelude.{Err, nat_eq, reverse}
+use Rattle.std.proofs.lemmas.List.{map-id, take-take}
 use Rattle.std.proofs.lemmas.List.Elements.{filter-append}
-use Rattle.par2_spec.proofs.ListsLaws.{of_contained, all-take, contained_first, contained_later}
-use Rattle.par2_spec.proofs.FullRank.{full-iff}
-use Rattle.par2_spec.proofs.PolynomialLaws.{with_roots_zero}
 use Rattle.std.proofs.lemmas.Cmp.{nat_eq_equiv}
 use Rattle.std.proofs.lemmas.List.Kept.{IsStrictlyIncreasing-filter}
-use Rattle.par2_spec.proofs.FieldConstants.{range_rises}
-use Rattle.std.proofs.lemmas.Map.Views.{Contains-from_any, list_any-from_Contains}
+use Rattle.std.proofs.lemmas.Bool.{not-false, not-true}
+use Rattle.std.proofs.lemmas.Map.Views.{Contains-from_any, any-filter_same, list_any-from_Contains}
 use Rattle.std.specs.List.{list_any}
-use Rattle.par2_solve.specs.Inverses.{AreHoleEquations, IsUnit, KilledByShifts, OnlyZeroFits, holes, is_hole, locator, shifted, shifted_at, span}
-use Rattle.par2_solve.proofs.Combinations.{coefficients-lt}
-use Rattle.par2_solve.proofs.Dots.{combined}
-use Rattle.par2_solve.proofs.RunInverses.{constants-lt, constant_at, run_sum_is}
-use Rattle.par2_solve.proofs.Runs.{placed, range_has, rises_to_the_end, rises_between}
+use Rattle.std.specs.Int.Bits.{xor_self}
+use Rattle.std.proofs.lemmas.List.Sums.{count_by-le-length, length-filter}
+use Rattle.par2_spec.proofs.ListsLaws.{of_contained, all-passing, all-take, contained_first, contained_later}
+use Rattle.par2_spec.proofs.FullRank.{full-iff}
+use Rattle.par2_spec.proofs.UniqueLaws.{with_roots_zero, with_roots_monic}
+use Rattle.par2_spec.proofs.FieldLaws.{range_rises, xor_same}
+use Rattle.par2_solve.specs.BufferContents.{AreHoleEquations, IsUnit, OnlyZeroFits, holes, is_hole, locator, shifted, shifted_at, span, AreHoleInverse, IsFillingFor, IsOriginAt, falling, from_origin, known_window, right_side}
+use Rattle.par2_solve.proofs.Combinations.{coefficients-lt, combined}
+use Rattle.par2_solve.proofs.RunInverses.{constants-lt, constant_at, run_sum_is, placed, range_has, rises_to_the_end, rises_between, rises_differ, take_rises}
+use Rattle.par2_solve.proofs.Inverting.{row_vector, row_read, unit_product, sum_of_row}
+use Rattle.par2_transform.specs.Chirps.{words_at}
+use Rattle.par2_solve.specs.declared.holes.Filling.{Filling}
+use Rattle.par2_solve.specs.declared.holes.Origin.{Origin}
+use Rattle.par2_solve.specs.declared.holes.Origin.TheVariants.{Exponent, Hole}
+use Rattle.par2_solve.proofs.Ranks.{is_kept, is_kept_at}
 
 -- ---- a polynomial times a power of z
 
@@ -32,8 +39,7 @@ from p u k =
 leading : (u n : ℕ) (f : ℕ → ℕ) → ((x : ℕ) → x < u → f x ≡ 0) → field_sum (u + n) f ≡ field_sum n (λ k. f (u + k))
 unfolding field_sum
 leading u zero f none = ap (λ m. field_sum m f) (let e : u + 0 ≡ u = omega arith in e) ∙ field_sum_none u f none
-leading u (suc n) f none =
-    ap (λ m. field_sum m f) (let e : u + suc n ≡ suc (u + n) = omega arith in e) ∙ ap (λ s. bit_xor s (f (u + n))) (leading u n f none)
+leading u (suc n) f none = ap (λ m. field_sum m f) (let e : u + suc n ≡ suc (u + n) = omega arith in e) ∙ ap (λ s. bit_xor s (f (u + n))) (leading u n f none)
 
 trailing : (n r : ℕ) (f : ℕ → ℕ) → ((i : ℕ) → f (n + i) ≡ 0) → field_sum (n + r) f ≡ field_sum n f
 unfolding field_sum
@@ -52,20 +58,14 @@ window_dot a g w =
 pub shifted_sum : (p : List ℕ) (u w : ℕ) (g : ℕ → ℕ) → u + length p ≤ w
     → dot (shifted p u (range_with_len 0 w)) (map g (range_with_len 0 w)) ≡ field_sum (length p) (λ k. mul (get_or p k 0) (g (u + k)))
 shifted_sum p u w g h =
+    let n : ℕ = length p in
+    let r : ℕ = w - (u + length p) in
+    let f : ℕ → ℕ = λ x. mul (shifted_at p u x) (g x) in
     window_dot (shifted_at p u) g w
     ∙ ap (λ m. field_sum m f) (let e : w ≡ u + (n + r) = omega (arith, h) in e)
     ∙ leading u (n + r) f (λ i low. ap (λ x. mul x (g i)) (below p u i low) ∙ zero-product (g i))
     ∙ trailing n r (λ k. f (u + k)) (λ i. ap (λ x. mul x (g (u + (n + i)))) (from p u (n + i) ∙ get_or_past p (n + i) 0 (omega arith)) ∙ zero-product (g (u + (n + i))))
     ∙ field_sum_same n (λ k. f (u + k)) (λ k. mul (get_or p k 0) (g (u + k))) (λ k _. ap (λ x. mul x (g (u + k))) (from p u k))
-  where
-    n : ℕ
-    n = length p
-
-    r : ℕ
-    r = w - (u + length p)
-
-    f : ℕ → ℕ
-    f x = mul (shifted_at p u x) (g x)
 
 -- a sum over some numbers is that over those that pass a test plus that over the others
 pub parted : (a g : ℕ → ℕ) (t : ℕ → Bool) (xs : List ℕ)
@@ -101,38 +101,22 @@ given ks v e = dot (coefficients ks e) v
 
 pub recurrence : (ks v : List ℕ) (s : ℕ) → AllByRecursion (λ x. x < 2 ^ 16) v → field_sum (length (locator ks)) (λ t. mul (get_or (locator ks) t 0) (given ks v (s + t))) ≡ 0
 recurrence ks v s is =
+    let n : ℕ = length ks in
+    let m : ℕ = length (locator ks) in
+    let p : ℕ → ℕ = λ t. get_or (locator ks) t 0 in
+    let a : ℕ → ℕ → ℕ = λ t i. get_or (coefficients ks (s + t)) i 0 in
+    let y : ℕ → ℕ = λ i. get_or v i 0 in
+    let elements : AllByRecursion (λ x. x < 2 ^ 16) (locator ks) = with_roots_elements (map constant ks) (constants-lt ks) in
+    let root : (i : ℕ) → i < length ks → value (locator ks) (constant (get_or ks i 0)) ≡ 0 = λ i low. subst (λ c. value (locator ks) c ≡ 0) (constant_at ks i low)
+    (all_get (λ z. value (locator ks) z ≡ 0) (map constant ks) i 0 (let long = length-map ks constant in omega (arith, long, low)) (with_roots_zero (map constant ks) (constants-lt ks))) in
+    let column : (i : ℕ) → i < n → field_sum m (λ t. mul (p t) (a t i)) ≡ 0 = λ i low.
+    let k = get_or ks i 0 in
+    field_sum_same m (λ t. mul (p t) (a t i)) (λ t. mul (p t) (coefficient (s + t) k)) (λ t _. ap (mul (p t)) (get_or-map (coefficient (s + t)) ks i 0 0 low))
+    ∙ run_sum_is (locator ks) s k elements ∙ ap (mul (pow (constant k) s)) (root i low) ∙ product-zero (pow (constant k) s) in
     field_sum_same m (λ t. mul (p t) (given ks v (s + t))) (λ t. mul (p t) (field_sum n (λ i. mul (a t i) (y i))))
     (λ t _. ap (mul (p t)) (dot_sum n (coefficients ks (s + t)) v (let long = length-map ks (coefficient (s + t)) in omega (arith, long))))
     ∙ combined m n p a y (all_at (λ x. x < 65536) 0 (omega arith) (locator ks) elements) (λ t _. coefficients-lt ks (s + t)) (all_at (λ x. x < 65536) 0 (omega arith) v is)
     ∙ field_sum_none n (λ i. mul (field_sum m (λ t. mul (p t) (a t i))) (y i)) (λ i low. ap (λ x. mul x (y i)) (column i low) ∙ zero-product (y i))
-  where
-    n : ℕ
-    n = length ks
-
-    m : ℕ
-    m = length (locator ks)
-
-    p : ℕ → ℕ
-    p t = get_or (locator ks) t 0
-
-    a : ℕ → ℕ → ℕ
-    a t i = get_or (coefficients ks (s + t)) i 0
-
-    y : ℕ → ℕ
-    y i = get_or v i 0
-
-    elements : AllByRecursion (λ x. x < 2 ^ 16) (locator ks)
-    elements = with_roots_elements (map constant ks) (constants-lt ks)
-
-    root : (i : ℕ) → i < length ks → value (locator ks) (constant (get_or ks i 0)) ≡ 0
-    root i low = subst (λ c. value (locator ks) c ≡ 0) (constant_at ks i low)
-        (all_get (λ z. value (locator ks) z ≡ 0) (map constant ks) i 0 (let long = length-map ks constant in omega (arith, long, low)) (with_roots_zero (map constant ks) (constants-lt ks)))
-
-    column : (i : ℕ) → i < n → field_sum m (λ t. mul (p t) (a t i)) ≡ 0
-    column i low =
-        let k = get_or ks i 0 in
-        field_sum_same m (λ t. mul (p t) (a t i)) (λ t. mul (p t) (coefficient (s + t) k)) (λ t _. ap (mul (p t)) (get_or-map (coefficient (s + t)) ks i 0 0 low))
-        ∙ run_sum_is (locator ks) s k elements ∙ ap (mul (pow (constant k) s)) (root i low) ∙ product-zero (pow (constant k) s)
 
 -- ---- the holes
 
@@ -146,8 +130,7 @@ among-iff es q = (Contains-from_any {eq = nat_eq} eqb-true q es, list_any-from_C
 -- the last exponent is at the end of the window, which is no hole
 last_at : (es : List ℕ) → IsStrictlyIncreasing es → 0 < length es → is_hole es (span es) ≡ false
 last_at es rise some =
-    let order = rises_to_the_end es rise some in
-    let e : get_or es (length es - 1) 0 ≡ get_or es 0 0 + span es = omega (arith, order) in
+    let e : get_or es (length es - 1) 0 ≡ get_or es 0 0 + span es = omega (arith, rises_to_the_end es rise some) in
     ap not ((among-iff es (get_or es 0 0 + span es)).1 (subst (Contains es) e (Contains-get_or es (length es - 1) 0 (omega (arith, some)))))
 
 range_more : (n : ℕ) → range_with_len 0 (n + 1) ≡ range_with_len 0 n ++ n ∷ []
@@ -175,10 +158,7 @@ found_among es q (Ok i) h = sym ((among-iff es q).1 (subst (Contains es) h.1 (Co
 found_among es q (Err i) h =
     sym (false_from_ne_true (among es q) (λ e.
     let at = placed es q ((among-iff es q).0 e) in
-    elim (cases_lt at.0 i) [
-      | inl low ↦ (let less = h.1 at.0 low in absurd (omega (arith, less, at.2)))
-      | inr high ↦ (let more = h.2 at.0 high at.1 in absurd (omega (arith, more, at.2)))
-    ]))
+    grind (arith, cases_lt at.0 i, h.1 at.0, h.2 at.0, at.1, at.2)))
 
 -- a number that is contained is found
 pub found_place : (hs : List ℕ) (x : ℕ) (r : Result ℕ ℕ)
@@ -187,38 +167,16 @@ pub found_place : (hs : List ℕ) (x : ℕ) (r : Result ℕ ℕ)
 found_place hs x (Ok i) h here = search rules
 found_place hs x (Err i) h here =
     let at = placed hs x here in
-    elim (cases_lt at.0 i) [
-      | inl low ↦ (let less = h.1 at.0 low in absurd (omega (arith, less, at.2)))
-      | inr high ↦ (let more = h.2 at.0 high at.1 in absurd (omega (arith, more, at.2)))
-    ]
+    by_either (cases_lt at.0 i) (λ low. (let less = h.1 at.0 low in absurd (omega (arith, less, at.2)))) (λ high. (let more = h.2 at.0 high at.1 in absurd (omega (arith, more, at.2))))
 
 -- a contained number that passes a test is among those that pass
 contained_filter : (t : ℕ → Bool) (xs : List ℕ) (x : ℕ) → Contains xs x → t x ≡ true → Contains (filter t xs) x
-contained_filter t [] x here e = absurd (omega (arith, here.1))
-contained_filter t (y ∷ ys) x here e = elim (cases_eq x y) [
-  | inl same ↦ first (t y) (ap t (sym same) ∙ e) (filter t ys) same
-  | inr other ↦ later (t y) (filter t ys) (contained_filter t ys x (rest (placed (y ∷ ys) x here) other) e)
-]
-  where
-    first : (b : Bool) → b ≡ true → (zs : List ℕ) → x ≡ y → Contains (cond b (y ∷ zs) zs) x
-    first true is zs same = subst (Contains (y ∷ zs)) (sym same) (contained_first y zs)
-    first false is zs same = (cc)
-
-    later : (b : Bool) (zs : List ℕ) → Contains zs x → Contains (cond b (y ∷ zs) zs) x
-    later true zs more = contained_later y zs x more
-    later false zs more = more
-
-    rest : (i : ℕ) × (i < length (y ∷ ys)) × (get_or (y ∷ ys) i 0 ≡ x) → (x ≡ y → ⊥) → Contains ys x
-    rest (zero, low, at) other = absurd (other (sym at))
-    rest (suc i, low, at) other = subst (Contains ys) at (Contains-get_or ys i 0 (omega (arith, low)))
+contained_filter t xs x here e = (among-iff (filter t xs) x).0 (any-filter_same (nat_eq x) t true (λ y same. ap t (sym (eqb-true x y same)) ∙ e) xs ∙ (among-iff xs x).1 here)
 
 pub hole_contained : (es : List ℕ) (x : ℕ) → IsStrictlyIncreasing es → 0 < length es → x ≤ span es → is_hole es x ≡ true → Contains (holes es) x
 hole_contained es x rise some within e =
-    let inside : x < span es + 1 = omega (arith, within) in
-    let long = length-range_with_len 0 (span es + 1) in
-    let at : get_or (range_with_len 0 (span es + 1)) x 0 ≡ x = get_or-range_with_len 0 (span es + 1) x 0 inside ∙ (let same : 0 + x ≡ x = omega arith in same) in
     subst (λ hs. Contains hs x) (holes_of_window es rise some)
-    (contained_filter (is_hole es) (range_with_len 0 (span es + 1)) x (subst (Contains (range_with_len 0 (span es + 1))) at (Contains-get_or (range_with_len 0 (span es + 1)) x 0 (omega (arith, inside, long)))) e)
+    (contained_filter (is_hole es) (range_with_len 0 (span es + 1)) x (subst (Contains (range_with_len 0 (span es + 1))) (zero-add x) (range_has 0 (span es + 1) x (omega (arith, within)))) e)
 
 pub holes_rise : (es : List ℕ) → IsStrictlyIncreasing (holes es)
 holes_rise es = IsStrictlyIncreasing-filter (is_hole es) (range_with_len 0 (span es)) (range_rises 0 (span es))
@@ -240,13 +198,12 @@ one_equation_more p places row right m u old new before columns bytes is unit cu
         bytes = are.bytes;
       } in
       let both = (cut.solves buffers are_old).0 solved in
-      elim (cases_lt k u) [
-        | inl early ↦ before.solves buffers are_old both.0 k early inside
-        | inr late ↦
-            let last : u ≡ k = omega (arith, low, late) in
-            subst (λ j. IsUnit m j (combination (2 * m) (shifted p j places) buffers)) last
-            (subst (IsUnit m u) (sym (ap₂ (λ b xs. combination b xs buffers) (sym before.bytes) (sym is) ∙ both.1)) (unit (omega (arith, last, inside))))
-      ];
+      by_either (cases_lt k u)
+      (λ early. before.solves buffers are_old both.0 k early inside)
+      (λ late.
+      let last : u ≡ k = omega (arith, low, late) in
+      subst (λ j. IsUnit m j (combination (2 * m) (shifted p j places) buffers)) last
+      (subst (IsUnit m u) (sym (ap₂ (λ b xs. combination b xs buffers) (sym before.bytes) (sym is) ∙ both.1)) (unit (omega (arith, last, inside)))));
 }
 
 pub only_zero_fits : (p places : List ℕ) (m n : ℕ) (system : Equations) → AreHoleEquations p places m n system → OnlyZeroIsKilled system → OnlyZeroFits p places n
@@ -257,21 +214,12 @@ only_zero_fits p places m n system are regular v vector fits =
 
 -- what holds of each item that passes a test holds of all that a filter leaves
 pub filter_all : (P : ℕ → Type 0) (t : ℕ → Bool) (xs : List ℕ) → AllByRecursion (λ x. t x ≡ true → P x) xs → AllByRecursion P (filter t xs)
-filter_all P t [] h = tt
-filter_all P t (x ∷ xs) h = step (t x) refl (filter t xs) (filter_all P t xs h.1)
-  where
-    step : (b : Bool) → t x ≡ b → (rest : List ℕ) → AllByRecursion P rest → AllByRecursion P (cond b (x ∷ rest) rest)
-    step true e rest more = (h.0 e, more)
-    step false e rest more = more
+filter_all P t = all-passing (λ x. t x ≡ true → P x) P t (λ x h. h)
 
 pub range_all : (P : ℕ → Type 0) (n : ℕ) → ((x : ℕ) → x < n → P x) → AllByRecursion P (range_with_len 0 n)
 range_all P n h = all_from P 0 (range_with_len 0 n) (λ i low.
-    let here : i < n = (let long = length-range_with_len 0 n in omega (arith, low, long)) in
+    let here : i < n = omega (arith, low, length-range_with_len 0 n) in
     subst P (sym (get_or-range_with_len 0 n i 0 here)) (h (0 + i) (omega (arith, here))))
-
-pub unset : (b : Bool) → not b ≡ true → b ≡ false
-unset true e = sym e
-unset false e = refl
 
 -- the place of a hole
 pub hole_place : (es : List ℕ) (q : ℕ) → q < length (holes es) → (get_or (holes es) q 0 < span es) × (is_hole es (get_or (holes es) q 0) ≡ true)
@@ -292,17 +240,14 @@ window_parted es a g rise some =
 
 -- a number that is no hole is an exponent
 pub no_hole : (es : List ℕ) (x : ℕ) → is_hole es x ≡ false → Contains es (get_or es 0 0 + x)
-no_hole es x e = (among-iff es (get_or es 0 0 + x)).0 (flipped (among es (get_or es 0 0 + x)) e)
-  where
-    flipped : (b : Bool) → not b ≡ false → b ≡ true
-    flipped true e = refl
-    flipped false e = sym e
+no_hole es x e = (among-iff es (get_or es 0 0 + x)).0 (not-false (among es (get_or es 0 0 + x)) e)
 
 pub exponent_no_hole : (es : List ℕ) (x : ℕ) → Contains es (get_or es 0 0 + x) → is_hole es x ≡ false
 exponent_no_hole es x here = ap not ((among-iff es (get_or es 0 0 + x)).1 here)
 
 pub holes_determine : (ks es : List ℕ) (n : ℕ) → AreSlices ks → IsStrictlyIncreasing es → 0 < length es → n + length ks ≤ span es + 1 → OnlyZeroFits (locator ks) (holes es) n → IsRepairable ks es
 holes_determine ks es n are rise some fit only v is killed =
+    let l : ℕ = length ks in
     run_determines ks (range_with_len f l) f are (range_has f l) v is
     (all_from (λ e. Kills ks e v) 0 (range_with_len f l) (λ i low.
     let long = length-range_with_len f l in
@@ -311,9 +256,6 @@ holes_determine ks es n are rise some fit only v is killed =
   where
     f : ℕ
     f = get_or es 0 0
-
-    l : ℕ
-    l = length ks
 
     w : ℕ
     w = span es + 1
@@ -326,14 +268,14 @@ holes_determine ks es n are rise some fit only v is killed =
     at_exponent x e = of_contained (λ e. Kills ks e v) es (f + x) killed (no_hole es x e)
 
     -- so at the holes it satisfies the holes' equations
-    fits : KilledByShifts (locator ks) (holes es) n (map g (holes es))
+    fits : (u : ℕ) → u < n → dot (shifted (locator ks) u (holes es)) (map g (holes es)) ≡ 0
     fits u low =
         let p = locator ks in
         let at_holes = dot (shifted p u (holes es)) (map g (holes es)) in
         let long = length-with_roots (map constant ks) in
         let count = length-map ks constant in
         sym (xor_zero_r at_holes)
-        ∙ ap (bit_xor at_holes) (sym (none_given (shifted_at p u) g (others es) (filter_all (λ x. g x ≡ 0) (λ x. not (is_hole es x)) (range_with_len 0 w) (range_all (λ x. not (is_hole es x) ≡ true → g x ≡ 0) w (λ x _ e. at_exponent x (unset (is_hole es x) e))))))
+        ∙ ap (bit_xor at_holes) (sym (none_given (shifted_at p u) g (others es) (filter_all (λ x. g x ≡ 0) (λ x. not (is_hole es x)) (range_with_len 0 w) (range_all (λ x. not (is_hole es x) ≡ true → g x ≡ 0) w (λ x _ e. at_exponent x (not-true (is_hole es x) e))))))
         ∙ sym (window_parted es (shifted_at p u) g rise some)
         ∙ shifted_sum p u w g (omega (arith, long, count, low, fit))
         ∙ field_sum_same (length p) (λ k. mul (get_or p k 0) (g (u + k))) (λ k. mul (get_or p k 0) (given ks v (f + u + k)))
@@ -356,5 +298,343 @@ holes_determine ks es n are rise some fit only v is killed =
 pub more_determine : (ks es : List ℕ) (n : ℕ) → IsRepairable ks (take n es) → IsRepairable ks es
 more_determine ks es n first v is killed = first v is (all-take (λ e. Kills ks e v) n es killed)
 
-pub full_rank : (ks es : List ℕ) → IsStrictlyIncreasing es → IsRepairable ks es → length ks ≡ rank ks es
-full_rank ks es rise repairable = sym ((full-iff ks es rise).1 repairable)
+-- The inverse of the holes' equations.
+
+-- ---- rows of the equations
+
+pub locator_long : (ks : List ℕ) → length (locator ks) ≡ suc (length ks)
+locator_long ks = length-with_roots (map constant ks) ∙ ap suc (length-map ks constant)
+
+shifted_at-lt : (p : List ℕ) (u x : ℕ) → AllByRecursion (λ c. c < 2 ^ 16) p → shifted_at p u x < 65536
+shifted_at-lt p u x are = by_either (cases_lt x u)
+    (λ low. (let e = below p u x low in omega (arith, e)))
+    (λ high.
+    (let e : shifted_at p u x ≡ get_or p (x - u) 0 = ap (λ b. cond b 0 (get_or p (x - u) 0)) (le-ltb x u high) in
+    let small = all_at (λ c. c < 65536) 0 (omega arith) p are (x - u) in
+    omega (arith, e, small)))
+
+pub shifted_vector : (p places : List ℕ) (u : ℕ) → AllByRecursion (λ c. c < 2 ^ 16) p → IsVector (length places) (shifted p u places)
+shifted_vector p places u are = (length-map places (shifted_at p u), all-each (λ c. c < 2 ^ 16) (shifted_at p u) (λ x. shifted_at-lt p u x are) places)
+
+-- ---- sums over a window
+
+pub same_values : {A B : Type 0} (g h : A → B) (xs : List A) → AllByRecursion (λ x. g x ≡ h x) xs → map g xs ≡ map h xs
+same_values g h [] same = refl
+same_values g h (x ∷ xs) same = ap₂ (λ y ys. y ∷ ys) same.0 (same_values g h xs same.1)
+
+-- ---- the system's solution
+
+pub are_hole_inverse : (p places : List ℕ) (n : ℕ) (system : Equations) (buffers rows : List (List ℕ)) → AllByRecursion (λ c. c < 2 ^ 16) p → AreHoleEquations p places n n system → OnlyZeroIsKilled system → IsTheSolution system buffers
+    → AreByteRows rows buffers (length buffers) → AreHoleInverse p places n rows
+are_hole_inverse p places n system buffers rows elements are regular solution rows_are =
+    let count : length buffers ≡ length places = solution.are_buffers.count ∙ are.columns in
+    record {
+      count = rows_are.count ∙ count;
+      vectors = λ q low. row_vector n system buffers rows solution.are_buffers are.bytes rows_are q (omega (arith, low, count));
+      product = λ u k hu hk.
+          unit_product (length places) n u k (shifted p u places) buffers rows (let long = length-map places (shifted_at p u) in omega (arith, long)) (shifted_vector p places u elements).1 solution.are_buffers.bytes
+          (λ i hi. row_read n system buffers rows solution.are_buffers are.bytes rows_are i k (omega (arith, hi, count)) hk) hk
+          (are.solves buffers solution.are_buffers solution.solves u hu hu);
+      only = only_zero_fits p places n n system are regular;
+    }
+
+-- The products of the inverse over holes solve the equations of the exponents.
+
+-- ---- sequences that satisfy a recurrence
+
+-- from each of the first n numbers on, the next l + 1 items, each times its coefficient, add up to 0
+abbrev Recurs : (p : ℕ → ℕ) (l n : ℕ) (g : ℕ → ℕ) → Type 0
+Recurs p l n g = (u : ℕ) → u < n → field_sum (suc l) (λ k. mul (p k) (g (u + k))) ≡ 0
+
+next_item : (p g : ℕ → ℕ) (l n u : ℕ) → p l ≡ 1 → GivesElements g → Recurs p l n g → u < n → field_sum l (λ k. mul (p k) (g (u + k))) ≡ g (u + l)
+unfolding field_sum
+next_item p g l n u one are recurs low =
+    xor_same (field_sum l (λ k. mul (p k) (g (u + k)))) (mul (p l) (g (u + l))) (recurs u low)
+    ∙ ap (λ c. mul c (g (u + l))) one ∙ product_comm 1 (g (u + l)) (omega arith) (are (u + l)) ∙ product-one (g (u + l)) (are (u + l))
+
+-- two such sequences that begin alike are alike
+alike : (p g h : ℕ → ℕ) (l n : ℕ) → p l ≡ 1 → GivesElements g → GivesElements h → Recurs p l n g → Recurs p l n h → ((x : ℕ) → x < l → g x ≡ h x) → (m x : ℕ) → x < m → x < n + l → g x ≡ h x
+alike p g h l n one g_are h_are g_recurs h_recurs first zero x low within = absurd (omega (arith, low))
+alike p g h l n one g_are h_are g_recurs h_recurs first (suc m) x low within = by_either (cases_lt x l)
+    (λ early. first x early)
+    (λ late.
+    let u = x - l in
+    let same : u + l ≡ x = omega (arith, late) in
+    let here : u < n = omega (arith, late, within) in
+    subst (λ y. g y ≡ h y) same
+    (sym (next_item p g l n u one g_are g_recurs here)
+    ∙ field_sum_same l (λ k. mul (p k) (g (u + k))) (λ k. mul (p k) (h (u + k)))
+    (λ k hk. ap (mul (p k)) (alike p g h l n one g_are h_are g_recurs h_recurs first m (u + k) (omega (arith, hk, same, low)) (omega (arith, hk, same, within))))
+    ∙ next_item p h l n u one h_are h_recurs here))
+
+-- the order of a sum doesn't matter
+reversed : (n : ℕ) (f : ℕ → ℕ) → field_sum n (λ s. f (n - 1 - s)) ≡ field_sum n f
+unfolding field_sum
+reversed zero f = refl
+reversed (suc n) f =
+    field_sum_head n (λ s. f (suc n - 1 - s))
+    ∙ ap₂ bit_xor (ap f (let e : suc n - 1 - 0 ≡ n = omega arith in e))
+    (field_sum_same n (λ s. f (suc n - 1 - suc s)) (λ s. f (n - 1 - s)) (λ s _. ap f (let e : suc n - 1 - suc s ≡ n - 1 - s = omega arith in e)) ∙ reversed n f)
+    ∙ xor_comm (f n) (field_sum n f)
+
+-- ---- the falling coefficients
+
+pub falling_long : (p : List ℕ) (w : ℕ) → length (falling p w) ≡ w
+falling_long p w = length-reverse (map (slice_index p) (range_with_len 0 w)) ∙ length-map-range_with_len (slice_index p) 0 w
+
+-- those from place w - 1 - y on are the coefficients of the polynomial times a power of z at y
+falling_shifted : (p : List ℕ) (w u y : ℕ) → y < w → get_or (falling p w) (w - 1 - y + u) 0 ≡ shifted_at p u y
+falling_shifted p w u y low = by_either (cases_lt y u)
+    (λ before. get_or_past (falling p w) (w - 1 - y + u) 0 (let long = falling_long p w in omega (arith, low, before, long)) ∙ sym (below p u y before))
+    (λ high.
+    let many = length-map-range_with_len (slice_index p) 0 w in
+    let i = w - 1 - y + u in
+    get_or-reverse (map (slice_index p) (range_with_len 0 w)) i 0 (omega (arith, low, high, many))
+    ∙ ap (λ m. get_or (map (slice_index p) (range_with_len 0 w)) (m - 1 - i) 0) many
+    ∙ get_or-map-range_with_len (slice_index p) 0 w (w - 1 - i) (y - u) 0 (omega (arith, low, high)) (omega (arith, low, high))
+    ∙ sym (ap (λ b. cond b 0 (get_or p (y - u) 0)) (le-ltb y u high)))
+
+-- ---- the syndromes of the window, at one word
+
+-- the origin of number x of the window
+abbrev pub origin_at : List Origin → ℕ → Origin
+origin_at origins x = get_or origins x (Exponent 0)
+
+module _ (ks es : List ℕ) (filling : Filling) (is : IsFillingFor ks es filling) (some : 0 < length es) (sources right filled : List (List ℕ)) (source_bytes : AreByteLists sources) (right_bytes : AreByteLists right) (filled_bytes : AreByteLists filled)
+    (w : ℕ) (right_is : (u : ℕ) → u < filling.equations.count → word w (list_at right u) ≡ right_side filling sources w u)
+    (filled_is : (q : ℕ) → q < length (holes es) → word w (list_at filled q) ≡ products filling.equations.count (lists_of filling.holes.items) right q w) where
+  abbrev n : ℕ
+  n = filling.equations.count
+
+  abbrev width : ℕ
+  width = span es + 1
+
+  abbrev p : List ℕ
+  p = locator ks
+
+  abbrev origin : ℕ → Origin
+  origin = origin_at filling.origins.items
+
+  -- the word of the syndrome of a number, and the same with none for the holes
+  abbrev syndrome_at : ℕ → ℕ
+  syndrome_at x = word w (from_origin sources filled (origin x))
+
+  abbrev known_at : ℕ → ℕ
+  known_at x = word w (from_origin sources [] (origin x))
+
+  syndrome_elements : GivesElements syndrome_at
+  syndrome_elements x = of_origin (origin x)
+    where
+      of_origin : (o : Origin) → word w (from_origin sources filled o) < 65536
+      of_origin (Exponent j) = word-lt (list_at sources j) w (source_bytes j)
+      of_origin (Hole q) = word-lt (list_at filled q) w (filled_bytes q)
+
+  -- an exponent's origin is no hole, and a hole's is no exponent
+  no_exponent : (x j : ℕ) → is_hole es x ≡ true → IsOriginAt es x (Exponent j) → ⊥
+  no_exponent x j hole h = false≢true (sym (exponent_no_hole es x (subst (Contains es) h.1 (Contains-get_or es j 0 h.0))) ∙ hole)
+
+  no_hole_origin : (x q : ℕ) → is_hole es x ≡ false → IsOriginAt es x (Hole q) → ⊥
+  no_hole_origin x q other h = false≢true (sym other ∙ ap (is_hole es) (sym h.1) ∙ (hole_place es q h.0).1)
+
+  none_known : (x : ℕ) → x < span es + 1 → is_hole es x ≡ true → known_at x ≡ 0
+  none_known x low hole = of_origin (origin x) (is.origins.each x low)
+    where
+      nothing : (q i : ℕ) → get_or (list_at [] q) i 0 ≡ 0
+      nothing q i = ap (λ xs. get_or xs i 0) (get_or_past [] q [] (omega arith)) ∙ get_or_past [] i 0 (omega arith)
+
+      of_origin : (o : Origin) → IsOriginAt es x o → word w (from_origin sources [] o) ≡ 0
+      of_origin (Exponent j) h = absurd (no_exponent x j hole h)
+      of_origin (Hole q) h = ap₂ (λ a b. a + 256 * b) (nothing q (2 * w)) (nothing q (2 * w + 1))
+
+  all_known : (x : ℕ) → x < span es + 1 → is_hole es x ≡ false → known_at x ≡ syndrome_at x
+  all_known x low other = of_origin (origin x) (is.origins.each x low)
+    where
+      of_origin : (o : Origin) → IsOriginAt es x o → word w (from_origin sources [] o) ≡ word w (from_origin sources filled o)
+      of_origin (Exponent j) h = refl
+      of_origin (Hole q) h = absurd (no_hole_origin x q other h)
+
+  filled_at : (q : ℕ) → q < length (holes es) → syndrome_at (get_or (holes es) q 0) ≡ word w (list_at filled q)
+  filled_at q low = of_origin (origin x) (is.origins.each x (omega (arith, place.0)))
+    where
+      x : ℕ
+      x = get_or (holes es) q 0
+
+      place : (get_or (holes es) q 0 < span es) × (is_hole es (get_or (holes es) q 0) ≡ true)
+      place = hole_place es q low
+
+      of_origin : (o : Origin) → IsOriginAt es (get_or (holes es) q 0) o → word w (from_origin sources filled o) ≡ word w (list_at filled q)
+      of_origin (Exponent j) h = absurd (no_exponent x j place.1 h)
+      of_origin (Hole r) h = ap (λ i. word w (list_at filled i)) (rises_differ (holes es) (holes_rise es) r q h.0 low h.1)
+
+  source_at : (x j : ℕ) → x < span es + 1 → j < length es → get_or es 0 0 + x ≡ get_or es j 0 → syndrome_at x ≡ word w (list_at sources j)
+  source_at x j low within same = of_origin (origin x) (is.origins.each x low)
+    where
+      of_origin : (o : Origin) → IsOriginAt es x o → word w (from_origin sources filled o) ≡ word w (list_at sources j)
+      of_origin (Exponent i) h = ap (λ k. word w (list_at sources k)) (rises_differ es is.rise i j h.0 within (h.1 ∙ same))
+      of_origin (Hole q) h = absurd (no_hole_origin x q (exponent_no_hole es x (subst (Contains es) (sym same) (Contains-get_or es j 0 within))) h)
+
+  -- a right-hand side is the sum over the exponents
+  right_others : (u : ℕ) → u < filling.equations.count → word w (list_at right u) ≡ dot (map (shifted_at (locator ks) u) (others es)) (map syndrome_at (others es))
+  right_others u low =
+      let items : List Origin = filling.origins.items in
+      let many : length filling.origins.items ≡ span es + 1 = is.origins.count in
+      let window : List (List ℕ) = known_window filling.origins.items sources in
+      let falls : List ℕ = falling (locator ks) (span es + 1) in
+      let a : ℕ → ℕ = shifted_at (locator ks) u in
+      let at_holes : AllByRecursion (λ y. known_at y ≡ 0) (holes es) = filter_all (λ y. known_at y ≡ 0) (is_hole es) (range_with_len 0 (span es)) (range_all (λ y. is_hole es y ≡ true → known_at y ≡ 0) (span es) (λ y hy e. none_known y (omega (arith, hy)) e)) in
+      let at_others : AllByRecursion (λ y. known_at y ≡ syndrome_at y) (others es) = filter_all (λ y. known_at y ≡ syndrome_at y) (λ y. not (is_hole es y)) (range_with_len 0 (span es + 1)) (range_all (λ y. not (is_hole es y) ≡ true → known_at y ≡ syndrome_at y) (span es + 1) (λ y hy e. all_known y hy (not-true (is_hole es y) e))) in
+      right_is u low
+      ∙ ap (λ sequence. field_sum (length sequence) (λ s. mul (get_or sequence (s + u) 0) (words_at window w s))) is.sequence
+      ∙ ap (λ m. field_sum m (λ s. mul (get_or falls (s + u) 0) (words_at window w s))) (falling_long p width)
+      ∙ field_sum_same width (λ s. mul (get_or falls (s + u) 0) (words_at window w s)) (λ s. mul (a (width - 1 - s)) (known_at (width - 1 - s))) (λ s hs. ap₂ mul
+      (ap (λ i. get_or falls i 0) (let e : s + u ≡ width - 1 - (width - 1 - s) + u = omega (arith, hs) in e) ∙ falling_shifted p width u (width - 1 - s) (omega (arith, hs)))
+      (ap (word w)
+      (get_or-map (from_origin sources []) (reverse items) s (Exponent 0) [] (let long = length-reverse items in omega (arith, hs, long, many))
+      ∙ ap (from_origin sources []) (get_or-reverse items s (Exponent 0) (omega (arith, hs, many)) ∙ ap (λ m. origin_at items (m - 1 - s)) many))))
+      ∙ reversed width (λ y. mul (a y) (known_at y))
+      ∙ sym (window_dot a known_at width)
+      ∙ window_parted es a known_at is.rise some
+      ∙ ap (λ x. bit_xor x (dot (map a (others es)) (map known_at (others es)))) (none_given a known_at (holes es) at_holes)
+      ∙ xor_zero_l (dot (map a (others es)) (map known_at (others es)))
+      ∙ ap (dot (map a (others es))) (same_values known_at syndrome_at (others es) at_others)
+
+  -- and that over the holes
+  right_holes : (u : ℕ) → u < filling.equations.count → dot (map (shifted_at (locator ks) u) (holes es)) (map syndrome_at (holes es)) ≡ word w (list_at right u)
+  right_holes u low =
+      let hs : List ℕ = holes es in
+      let h : ℕ = length (holes es) in
+      let a : ℕ → ℕ = shifted_at (locator ks) u in
+      let x : ℕ → ℕ → ℕ = λ q v. get_or (list_at (lists_of filling.holes.items) q) v 0 in
+      let b : ℕ → ℕ = λ v. word w (list_at right v) in
+      let b_elements : GivesElements b = λ v. word-lt (list_at right v) w (right_bytes v) in
+      dot_sum h (map a hs) (map syndrome_at hs) (let long = length-map hs a in omega (arith, long))
+      ∙ field_sum_same h (product_at (map a hs) (map syndrome_at hs)) (λ q. mul (get_or (map a hs) q 0) (field_sum n (λ v. mul (x q v) (b v)))) (λ q hq. ap (mul (get_or (map a hs) q 0)) (get_or-map syndrome_at hs q 0 0 hq ∙ filled_at q hq ∙ filled_is q hq))
+      ∙ combined h n (λ q. get_or (map a hs) q 0) x b (all_at (λ c. c < 65536) 0 (omega arith) (shifted p u hs) (shifted_vector p hs u (with_roots_elements (map constant ks) (constants-lt ks))).1) (λ q hq. all_at (λ c. c < 65536) 0 (omega arith) (list_at (lists_of filling.holes.items) q) (is.holes.vectors q hq).1) b_elements
+      ∙ field_sum_same n (λ v. mul (field_sum h (λ q. mul (get_or (map a hs) q 0) (x q v))) (b v)) (λ v. mul (identity u v) (b v)) (λ v hv. ap (λ z. mul z (b v)) (is.holes.product u v low hv))
+      ∙ sum_of_row n u b low b_elements
+
+  -- so the syndromes of the window satisfy the locator's recurrence
+  window_recurs : Recurs (slice_index (locator ks)) (length ks) filling.equations.count syndrome_at
+  window_recurs u low =
+      let long : length (locator ks) ≡ suc (length ks) = locator_long ks in
+      ap (λ m. field_sum m (λ k. mul (get_or p k 0) (syndrome_at (u + k)))) (sym long)
+      ∙ sym (shifted_sum p u width syndrome_at (let fit = is.fit in let square = is.square in omega (arith, long, low, fit, square)))
+      ∙ window_parted es (shifted_at p u) syndrome_at is.rise some
+      ∙ ap₂ bit_xor (right_holes u low) (sym (right_others u low))
+      ∙ xor_self (word w (list_at right u))
+
+  -- and a vector that solves the equations of the run solves those of the exponents
+  pub window_solved : (v : List ℕ) → AllByRecursion (λ y. y < 2 ^ 16) v → ((x : ℕ) → x < length ks → given ks v (get_or es 0 0 + x) ≡ syndrome_at x) → (j : ℕ) → j < length ks → given ks v (get_or es j 0) ≡ word w (list_at sources j)
+  window_solved v elements run j low =
+      let f : ℕ = get_or es 0 0 in
+      let x : ℕ = get_or es j 0 - get_or es 0 0 in
+      let given_here : ℕ → ℕ = λ y. given ks v (f + y) in
+      let square : length es ≡ length ks = is.square in
+      let here : j < length es = omega (arith, low, square) in
+      let back : get_or es 0 0 + (get_or es j 0 - get_or es 0 0) ≡ get_or es j 0 = let by = rises_between es is.rise 0 j (omega arith) here in omega (arith, by) in
+      let within : get_or es j 0 - get_or es 0 0 < span es + 1 =
+      let last = rises_between es is.rise j (length es - 1) (omega (arith, here)) (omega (arith, some)) in
+      omega (arith, last) in
+      let monic : get_or (locator ks) (length ks) 0 ≡ 1 = ap (λ m. get_or (locator ks) m 0) (sym (length-map ks constant)) ∙ with_roots_monic (map constant ks) (constants-lt ks) in
+      ap (given ks v) (sym back)
+      ∙ alike (slice_index p) given_here syndrome_at (length ks) n monic (λ y. dot-lt (coefficients ks (f + y)) v (coefficients_are (f + y) ks) elements) syndrome_elements
+      (λ u hu. ap (λ m. field_sum m (λ k. mul (get_or p k 0) (given ks v (f + (u + k))))) (sym (locator_long ks))
+      ∙ field_sum_same (length p) (λ k. mul (get_or p k 0) (given ks v (f + (u + k)))) (λ k. mul (get_or p k 0) (given ks v (f + u + k))) (λ k _. ap (λ e. mul (get_or p k 0) (given ks v e)) (let e : f + (u + k) ≡ f + u + k = omega arith in e))
+      ∙ recurrence ks v (f + u) elements)
+      window_recurs run (suc x) x (omega arith) (let fit = is.fit in omega (arith, within, fit, square))
+      ∙ source_at x j within here back
+
+-- ---- the products
+
+pub filled_solve : (ks es : List ℕ) (filling : Filling) (size : ℕ) (sources right filled run sums : List (List ℕ)) → IsFillingFor ks es filling → length sources ≡ length ks
+    → AreByteLists sources → AreByteLists right → AreByteLists filled → AreByteLists sums → AreSums size filling.equations.count (right_side filling sources) right → AreProducts size (lists_of filling.holes.items) right filled
+    → run ≡ map (from_origin sources filled) (take (length sources) filling.origins.items) → AreSolved size ks (range_with_len (get_or es 0 0) (length ks)) (words_at run) sums → AreSolved size ks es (words_at sources) sums
+filled_solve ks es filling size sources right filled run sums is many source_bytes right_bytes filled_bytes sum_bytes right_are filled_are run_is solved =
+    let within : ℕ → length sources ≤ length filling.origins.items = λ w. let count = is.origins.count in let fit = is.fit in let square = is.square in omega (arith, many, count, fit, square) in
+    record {
+      count = solved.count;
+      sizes = solved.sizes;
+      words = λ j w low fits.
+          window_solved ks es filling is (let square = is.square in omega (arith, low, square)) sources right filled source_bytes right_bytes filled_bytes w
+          (λ u hu. right_are.words u w hu fits)
+          (λ q hq. filled_are.words q w (let count = is.holes.count in omega (arith, hq, count)) fits ∙ ap (λ m. products m (lists_of filling.holes.items) right q w) right_are.count)
+          (map (word w) sums) (words_are w sums (all_from (λ (content : List ℕ). AllByRecursion (λ b. b < 256) content) [] sums (λ i _. all_from (λ b. b < 256) 0 (list_at sums i) (λ k _. sum_bytes i k))))
+          (λ x hx.
+          ap (given ks (map (word w) sums)) (sym (get_or-range_with_len (get_or es 0 0) (length ks) x 0 hx))
+          ∙ solved.words x w hx fits
+          ∙ ap (λ ls. word w (list_at ls x)) run_is
+          ∙ ap (word w) (get_or-map (from_origin sources filled) (take (length sources) filling.origins.items) x (Exponent 0) [] (let taken = length-take-le (length sources) filling.origins.items (within w) in omega (arith, hx, many, taken)))
+          ∙ ap (λ o. word w (from_origin sources filled o)) (get_or-take (length sources) filling.origins.items x (Exponent 0) (omega (arith, hx, many))))
+          j low;
+    }
+
+-- If the first exponents, as many as slices are lost, determine the lost slices, they are the kept ones.
+
+-- ---- the first exponents
+
+-- n numbers whose first and last differ by less than n are a run
+pub is_run : (xs : List ℕ) → IsStrictlyIncreasing xs → 0 < length xs → span xs < length xs → xs ≡ range_with_len (get_or xs 0 0) (length xs)
+is_run xs rise some near =
+    ext_get_or 0 xs (range_with_len (get_or xs 0 0) (length xs)) (sym (length-range_with_len (get_or xs 0 0) (length xs))) (λ k low.
+    let at : get_or xs k 0 ≡ get_or xs 0 0 + k = omega (arith, near, rises_to_the_end xs rise some, rises_between xs rise 0 k (omega arith) low, rises_between xs rise k (length xs - 1) (omega (arith, low)) (omega (arith, some)), low) in
+    at ∙ sym (get_or-range_with_len (get_or xs 0 0) (length xs) k 0 low))
+
+-- ---- the kept exponents
+
+-- if a filter leaves n items and the first n pass, it leaves these
+filter_first : {A : Type 0} (p : A → Bool) (n : ℕ) (xs : List A) → length (filter p xs) ≡ n → AllByRecursion (λ x. p x ≡ true) (take n xs) → filter p xs ≡ take n xs
+filter_first p zero xs count h = none xs (filter p xs) count
+  where
+    none : {A : Type 0} (xs ys : List A) → length ys ≡ 0 → ys ≡ take 0 xs
+    none [] [] e = refl
+    none (x ∷ xs) [] e = refl
+    none xs (y ∷ ys) e = absurd (omega (arith, e))
+filter_first p (suc n) [] count h = refl
+filter_first p (suc n) (x ∷ xs) count h = grind (arith, filter_first p n xs, h.0, h.1)
+
+-- if a filter leaves as many items as there are, all pass
+all_pass : {A : Type 0} (p : A → Bool) (xs : List A) → length (filter p xs) ≡ length xs → AllByRecursion (λ x. p x ≡ true) xs
+all_pass p [] e = tt
+all_pass p (x ∷ xs) e = grind (arith, all_pass p xs, count_by-le-length p xs, length-filter p xs)
+
+-- whether an exponent is kept depends only on those before it
+kept_alone : (ks es : List ℕ) (n i : ℕ) → IsStrictlyIncreasing es → n ≤ length es → i < n → is_kept ks es (get_or es i 0) ≡ is_kept ks (take n es) (get_or es i 0)
+kept_alone ks es n i rise within low =
+    let long = length-take-le n es within in
+    let at : get_or (take n es) i 0 ≡ get_or es i 0 = get_or-take n es i 0 low in
+    is_kept_at ks es i rise (omega (arith, low, within))
+    ∙ ap (λ before. is_independent (length ks) (map (coefficients ks) before) (coefficients ks (get_or es i 0))) (sym (take-take i n es (omega (arith, low))))
+    ∙ subst (λ e. is_independent (length ks) (map (coefficients ks) (take i (take n es))) (coefficients ks e) ≡ is_kept ks (take n es) e) at (sym (is_kept_at ks (take n es) i (take_rises es n rise within) (omega (arith, low, long))))
+
+-- the first exponents, as many as slices are lost, are kept if they determine the lost slices
+first_pass : (ks es : List ℕ) → IsStrictlyIncreasing es → length ks ≤ length es → IsRepairable ks (take (length ks) es) → AllByRecursion (λ e. is_kept ks es e ≡ true) (take (length ks) es)
+first_pass ks es rise within enough =
+    let n : ℕ = length ks in
+    let first : List ℕ = take (length ks) es in
+    let long : length (take (length ks) es) ≡ length ks = length-take-le n es within in
+    let full : length (kept ks (take (length ks) es)) ≡ length ks = (full-iff ks first (take_rises es n rise within)).1 enough in
+    all_from (λ e. is_kept ks es e ≡ true) 0 first (λ i low.
+    let here : i < n = omega (arith, low, long) in
+    let at : get_or first i 0 ≡ get_or es i 0 = get_or-take n es i 0 here in
+    subst (λ e. is_kept ks es e ≡ true) (sym at) (kept_alone ks es n i rise within here ∙ subst (λ e. is_kept ks first e ≡ true) at (all_get (λ e. is_kept ks first e ≡ true) first i 0 low (all_pass (is_kept ks first) first (full ∙ sym long)))))
+
+pub kept_first : (ks es : List ℕ) → IsStrictlyIncreasing es → length ks ≤ length es → IsRepairable ks (take (length ks) es) → kept ks es ≡ take (length ks) es
+kept_first ks es rise within enough = filter_first (is_kept ks es) (length ks) es ((full-iff ks es rise).1 (more_determine ks es (length ks) enough)) (first_pass ks es rise within enough)
+
+-- ---- the numbers of the lost slices
+
+lost_above : {A : Type 0} (a : ℕ) (known : List (Option A)) (i : ℕ) → i < length (lost_from a known) → a ≤ get_or (lost_from a known) i 0
+lost_above a [] i h = absurd (omega (arith, h))
+lost_above a (Some x ∷ known) i h = let rest = lost_above (a + 1) known i h in omega (arith, rest)
+lost_above a (None ∷ known) zero h = omega arith
+lost_above a (None ∷ known) (suc i) h = let rest = lost_above (a + 1) known i (omega (arith, h)) in omega (arith, rest)
+
+pub lost_rise : {A : Type 0} (a : ℕ) (known : List (Option A)) → IsStrictlyIncreasing (lost_from a known)
+lost_rise a [] k h = absurd (omega (arith, h))
+lost_rise a (Some x ∷ known) k h = lost_rise (a + 1) known k h
+lost_rise a (None ∷ known) zero h =
+    let e : 0 + 1 ≡ suc 0 = omega arith in
+    subst (λ n. a < get_or (a ∷ lost_from (a + 1) known) n 0) (sym e) (omega (arith, lost_above (a + 1) known 0 (omega (arith, h))))
+lost_rise a (None ∷ known) (suc k) h =
+    let e : suc k + 1 ≡ suc (k + 1) = omega arith in
+    subst (λ n. get_or (lost_from (a + 1) known) k 0 < get_or (a ∷ lost_from (a + 1) known) n 0) (sym e) (lost_rise (a + 1) known k (omega (arith, h)))

@@ -1,4 +1,2 @@
 pub mod BufferContents
 pub mod Rebuilding
-pub mod Inverses
-pub mod WrittenSlices

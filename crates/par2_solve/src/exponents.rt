@@ -2,14 +2,11 @@
 //! exponents first (`rank_by_runs`), which takes no memory, then tries the equations of the holes between them
 //! (`determine`), and last the elimination of all equations.
 
-ghost use Rattle.std.specs.Prelude.{◌≡◌, ◌==◌, ◌↔◌, ◌<◌, ◌≤◌, ℕ, length, slice_index, take, IfOk, IfSome, IsNone, IsTrue};
+ghost use Rattle.std.specs.Prelude.{◌≡◌, ◌==◌, ◌↔◌, ◌*◌, ◌<◌, ◌≤◌, ◌⊎◌, ℕ, length, slice_index, take, IfOk, IfSome, IsNone, IsTrue};
 ghost use Rattle.std.specs.List.{list_any};
 ghost use Rattle.std.specs.List.Sorted.{IsStrictlyIncreasing};
-ghost use Rattle.par2_spec.specs.Field.{coefficient};
-ghost use Rattle.par2_spec.specs.Recovery.{coefficients};
-ghost use Rattle.par2_spec.specs.Rank.{rank, IsRepairable};
-ghost use Rattle.par2_spec.specs.Runs.{AreClose, AreSlices, HasRun};
-ghost use Rattle.par2_solve.specs.Inverses.{span};
+ghost use Rattle.par2_spec.specs.Prelude.{coefficient, coefficients, rank, IsRepairable, AreClose, AreSlices, HasRun};
+ghost use Rattle.par2_solve.specs.BufferContents.{span};
 
 use crate::holes::determine;
 use crate::inverse::eliminate;
@@ -33,6 +30,14 @@ pub(crate) struct Exponents<'a> {
     ghost rise: { IsStrictlyIncreasing numbers.now },
 }
 
+/// The first exponents, as many as slices are lost, at least one.
+#[derive(Clone, Copy)]
+pub(crate) struct Front<'a> {
+    pub(crate) numbers: &'a [u32],
+    ghost some: { 0 < length numbers.now },
+    ghost rise: { IsStrictlyIncreasing numbers.now },
+}
+
 // The coefficient of input slice `k` in the recovery slice of exponent `e`: the slice's constant to the power `e`. A
 // number past the last slice counts as one with the constant 1.
 #[tactic(auto, unfolding(par2_spec::specs::Field::coefficient), using(crate::proofs::Combinations::constant_past))]
@@ -51,40 +56,24 @@ pub(crate) fn coefficients(alloc: Global, gf: &Gf, numbers: &[u32], e: u32) -> R
     row.collect(alloc)
 }
 
-/// Whether the numbers are strictly increasing.
-pub(crate) fn rise(numbers: &[u32]) -> bool
-    ensures { IsTrue result ↔ IsStrictlyIncreasing numbers.now }
-{
-    numbers.windows(2).all(|pair| pair[0] < pair[1])
-}
-
 /// Whether these are increasing numbers of input slices, as those of `Lost` are.
-#[tactic(auto, using(crate::proofs::Runs::slices_from))]
+#[tactic(auto, using(crate::proofs::RunInverses::slices_from))]
 pub(crate) fn are_slices(numbers: &[u32]) -> bool
     ensures { IsTrue result → AreSlices numbers.now }
 {
-    rise(numbers) && numbers.iter().all(|k| *k < 32768)
+    numbers.windows(2).all(|pair| pair[0] < pair[1]) && numbers.iter().all(|k| *k < 32768)
 }
 
 impl<'a> Exponents<'a> {
-    /// The difference between the last exponent and the first, 0 if there are none.
-    pub(crate) fn span(&self) -> u32
-        ensures { result ≡ span self.now.numbers.now }
-    {
-        if self.numbers.is_empty() {
-            return 0;
-        }
-        self.numbers[self.numbers.len() - 1] - self.numbers[0]
-    }
-
-    /// Whether any two of the exponents differ by less than `count`. It is enough to compare the first and the last.
-    pub(crate) fn are_close(&self, count: usize) -> bool
+    // Whether any two of the exponents differ by less than `count`. It is enough to compare the first and the last.
+    fn are_close(&self, count: usize) -> bool
         ensures { IsTrue result ↔ AreClose count self.now.numbers.now }
     {
         if self.numbers.is_empty() {
             return true;
         }
-        (self.span() as usize) < count
+        let span = self.numbers[self.numbers.len() - 1] - self.numbers[0];
+        (span as usize) < count
     }
 
     // Whether `count` of the exponents are consecutive: they are if they lie within `count` numbers.
@@ -108,17 +97,34 @@ impl<'a> Exponents<'a> {
         self.numbers.binary_search(&e).is_ok()
     }
 
-    /// The first `count` exponents, if there are that many.
-    pub(crate) fn first(&self, count: usize) -> Option<Exponents<'a>>
-        ensures first { IfSome result (λ first. first.numbers.now ≡ take count self.now.numbers.now) }
-        ensures count { IfSome result (λ first. length first.numbers.now ≡ count) }
-        ensures none { IsNone result → length self.now.numbers.now < count }
+    /// The first `count` exponents, at least one, if there are that many.
+    pub(crate) fn first(&self, count: usize) -> Option<Front<'a>>
+        ensures first { IfSome result (λ it. it.numbers.now ≡ take count self.now.numbers.now) }
+        ensures count { IfSome result (λ it. length it.numbers.now ≡ count) }
+        ensures none { IsNone result → (count ≡ 0) ⊎ (length self.now.numbers.now < count) }
     {
-        if self.numbers.len() < count {
+        if count == 0 || self.numbers.len() < count {
             return None;
         }
         let numbers = &self.numbers[..count];
-        Some(Exponents { numbers })
+        Some(Front { numbers })
+    }
+}
+
+impl<'a> Front<'a> {
+    /// The difference between the last exponent and the first.
+    pub(crate) fn span(&self) -> u32
+        ensures { result ≡ span self.now.numbers.now }
+    {
+        self.numbers[self.numbers.len() - 1] - self.numbers[0]
+    }
+
+    /// Whether there are at most as many holes between the exponents as exponents. With more, the holes' equations would
+    /// outnumber those of the exponents, and elimination would be as fast.
+    pub(crate) fn has_few_holes(&self) -> bool
+        ensures { IsTrue result → span self.now.numbers.now < 2 * length self.now.numbers.now }
+    {
+        (self.span() as usize) < 2 * self.numbers.len()
     }
 }
 
@@ -152,7 +158,7 @@ pub fn rank_by_equations(alloc: Global, gf: &Gf, lost: &[u32], exponents: &[u32]
     if determine(alloc, gf, lost, &rising)? {
         return Ok(lost.len());
     }
-    Ok(eliminate(alloc, gf, lost, &rising, 0)?.system.rank())
+    Ok(eliminate(alloc, gf, lost, &rising, 0)?.1.rank())
 }
 
 /// The rank of the exponents' equations for these lost slices, which is how many exponents are kept. It equals the

@@ -5,22 +5,15 @@
 #![tactic(auto)]
 
 mod additions;
-mod encoder;
 mod exponents;
-mod filling;
 mod holes;
 mod inverse;
 mod products;
 mod rebuild_slices;
-mod recovery;
 mod room;
-mod run_inverse;
-mod run_locator;
-mod solver;
-mod spans;
-mod syndromes;
+mod targets;
 
-pub use additions::numbers_from;
+pub use additions::{numbers_from, write_recovery_slices};
 pub use exponents::{rank, rank_by_equations, rank_by_runs};
+pub use products::blank;
 pub use rebuild_slices::{RebuildFault, Survivors, rebuild, rebuild_lost};
-pub use recovery::{blank, write_recovery_slices};

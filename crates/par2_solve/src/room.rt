@@ -16,12 +16,6 @@ const STEP: usize = 64;
 // The most steps of a row.
 const WIDEST: usize = 32;
 
-// The number of bytes in these slices.
-fn total(slices: &[&[u8]]) -> usize {
-    let lens = slices.iter().map(|slice| slice.len());
-    lens.fold(0usize, |total, len| total.saturating_add(len))
-}
-
 // The number of outputs, rounded up to a power of 2. The transform has three rows for each.
 fn rounded(count: usize) -> usize
     ensures some { 1 ≤ result }
@@ -33,12 +27,10 @@ fn rounded(count: usize) -> usize
 // A quarter of the memory that computing `count` recovery slices may take, in bytes: that of a 64th of the slices, or of
 // up to a 16th until rows are as wide as they get, because narrow rows are slow.
 fn quarter(slices: &[&[u8]], count: usize) -> usize {
-    let total = total(slices);
+    let lens = slices.iter().map(|slice| slice.len());
+    let total = lens.fold(0usize, |total, len| total.saturating_add(len));
     let widest = rounded(count) * WIDEST * STEP;
-    (total / 64)
-        .min(widest)
-        .max(total / 256)
-        .saturating_add(ROOM / 4)
+    (total / 64).min(widest).max(total / 256) + ROOM / 4
 }
 
 /// The memory that computing `count` recovery slices may take, in bytes, if there are no columns beside it, as when a set
@@ -52,14 +44,6 @@ pub(crate) fn rows_room(slices: &[&[u8]], count: usize) -> usize {
     quarter(slices, count).saturating_mul(3)
 }
 
-// How many steps of `STEP` bytes each row has, if the transform computes `count` outputs.
-fn row_steps(slices: &[&[u8]], count: usize) -> usize
-    ensures { 1 ≤ result }
-{
-    let rows = 3 * rounded(count);
-    (rows_room(slices, count) / rows / STEP).clamp(1, WIDEST)
-}
-
 /// How many columns, in bytes, of `count` recovery slices over slices of `size` bytes are computed at a time. Blocks
 /// are about equal and at most a whole number of the transform's rows. For each block, these columns of all slices are
 /// read.
@@ -69,7 +53,8 @@ pub(crate) fn columns_at_once(slices: &[&[u8]], count: usize, size: usize) -> us
 {
     let each = (quarter(slices, count) / count.max(1)).saturating_sub(OVERHEAD);
     let steps = (each / STEP).max(1);
-    let row = row_steps(slices, count);
+    let rows = 3 * rounded(count);
+    let row = (rows_room(slices, count) / rows / STEP).clamp(1, WIDEST);
     let rest = steps % row;
     let most = if steps > row { steps - rest } else { steps };
     let all = size.div_ceil(STEP);

@@ -17,37 +17,43 @@ pub use Rattle.std.specs.Int.{bit_at, div_ceil}
 pub use Rattle.std.specs.Int.Bits.{xor_assoc, xor_self, xor_shifted, xor_zero_l, xor_zero_r}
 pub use Rattle.std.specs.Prelude.{filter, if◌then◌else◌, nat_le, nat_lt, not, slice_index, ◌&&◌, ◌==◌}
 pub use Rattle.std.specs.Vec.{with_items}
-pub use Rattle.par2_spec.proofs.FieldBits.{IsLinear, bit_cases, bit_times_xor, bit_xor_times, bits_ind, linear-zero, tested, tested_at, xor_middle}
-pub use Rattle.par2_spec.proofs.FieldOrder.{no_zero_divisor, power-65535, power-add, power-lt, product-zero, zero-product}
-pub use Rattle.par2_spec.proofs.FieldProducts.{product-lt, product-one, product_assoc, product_comm, product_linear_left, product_linear_right}
+pub use Rattle.par2_spec.proofs.FieldLaws.{IsLinear, bit_cases, bit_times_xor, bit_xor_times, bits_ind, linear-zero, tested, tested_at, xor_middle, no_zero_divisor, power-65535, power-add, power-lt, product-zero, zero-product, product-lt, product-one, product_assoc, product_comm, product_linear_left, product_linear_right, field_sum-lt, field_sum_head, field_sum_none, field_sum_one, field_sum_same, field_sum_scaled, field_sum_xor, xor_off}
 pub use Rattle.par2_spec.proofs.FieldSteps.{one-power, power-mul, power_inverse}
-pub use Rattle.par2_spec.proofs.FoundLaws.{slice_begins}
-pub use Rattle.par2_spec.proofs.SumLaws.{field_sum-lt, field_sum_head, field_sum_none, field_sum_one, field_sum_same, field_sum_scaled, field_sum_xor, xor_off}
-pub use Rattle.par2_spec.proofs.WordLaws.{length-lists_of, read_at, word-lt, written_changed, written_here}
-pub use Rattle.par2_spec.specs.Field.{is_coprime}
-unfoldable pub use Rattle.par2_spec.specs.Field.{coefficient, constant, constant_powers, mul, pow}
-pub use Rattle.par2_spec.specs.Slices.{word}
-pub use Rattle.par2_spec.specs.Sums.{GivesElements, OneChanged, list_at, lists_of}
-unfoldable pub use Rattle.par2_spec.specs.Sums.{field_sum}
-pub use Rattle.par2_gf16.specs.Products.{AddsTo}
-pub use Rattle.par2_gf16.specs.Vectors.{word_in, word_of}
+pub use Rattle.par2_spec.proofs.SearchLaws.{slice_begins}
+pub use Rattle.par2_spec.proofs.ListsLaws.{length-lists_of, read_at, word-lt, written_changed, written_here}
+pub use Rattle.par2_spec.specs.Prelude.{is_coprime, word, GivesElements, OneChanged, list_at, lists_of}
+unfoldable pub use Rattle.par2_spec.specs.Prelude.{coefficient, constant, constant_powers, mul, pow, field_sum}
+pub use Rattle.par2_gf16.specs.Tables.{AddsTo}
+pub use Rattle.par2_gf16.specs.Words.{word_in, word_of}
 pub use Rattle.par2_gf16.specs.declared.vectors.WordVector.{WordVector}
-pub use Rattle.par2_transform.specs.Adding.{row_size, row_word, times, AddsAt, AddsToEach, AddsToPart, AreApart, AreWholeBuffers, HasByte, HaveWords, LieWithin, output_word, place_at, within}
-pub use Rattle.par2_transform.specs.Blocks.{AreBlocks, AreWeightRows, BlocksBecome, CoverOutputs, EachBlock, Gathers, GathersWindow, HasShape, IsBlock, IsCleared, IsGathered, Keeps, Outputs, RowsGathered, Takes, outputs_at, class_sum_at, from_gathered, weight_at, AreReady, HaveShape, HaveShapes, cut_of, part_from}
-pub use Rattle.par2_transform.specs.Chirps.{AreWordsOfFirst, AreWeights, Tabulates, Cut, HasWeights, Reaches, class_part, coefficient_of, gathered, window_value}
+pub use Rattle.par2_transform.specs.Rows.{times, AddsAt, AddsToEach, AreApart, AreWholeBuffers, HasByte, HaveWords, LieWithin, output_word, place_at, within, AreCopied, AreRewritten, AreRows, AreTwoRuns, CopiesVectors, EachColumn, Grid, HasSize, IsAdded, IsPair, IsRun, column, AddsToRun, AheadAdded, IsButterfly, IsRaised, IsSpreadAbove, IsSpreadBelow, OneRun, RunAddedBy, SameValuesOutside}
+pub use Rattle.par2_transform.specs.Outputs.{AreWeightRows, BlocksBecome, CoverOutputs, EachBlock, Gathers, HasShape, IsBlock, IsCleared, IsGathered, Keeps, Outputs, RowsGathered, Takes, outputs_at, class_sum_at, weight_at, AreReady, HaveShape, cut_of, part_from, Adds, AddsIn, AddsSlices, Fit, LieIn, numerator_word, quotient_word}
+pub use Rattle.par2_transform.specs.Chirps.{AreWordsOfFirst, AreWeights, Tabulates, Cut, HasWeights, Reaches, from_gathered, coefficient_of, coefficients_from, gathered, window_value, AreByteLists, AreNumbers, recovered, byte_lists, words_at}
 unfoldable pub use Rattle.par2_transform.specs.Chirps.{chirp, chirp_inverse, coprimes_below, triangle, word_at_power}
-pub use Rattle.par2_transform.specs.Columns.{AreByteLists, AreNumbers, recovered, byte_lists, words_at}
-pub use Rattle.par2_transform.specs.Combinations.{AreListedValues, IsListed, listed_by}
-pub use Rattle.par2_transform.specs.Evaluations.{AreZeroFrom, AreValues, from, value}
-pub use Rattle.par2_transform.specs.Grids.{AreCopied, AreRewritten, AreRows, AreTwoRuns, CopiesVectors, EachColumn, Grid, HasSize, IsAdded, IsPair, IsRun, column}
-pub use Rattle.par2_transform.specs.Locators.{AreNumbered, AreNumerators, AreValuesOf, HaveFirst, IsWeighed, in_coset, numerator, quotient_coefficient, quotient_sum}
-pub use Rattle.par2_transform.specs.Products.{numerator_word, quotient_word}
-pub use Rattle.par2_transform.specs.Subspaces.{ArePowerSums, IsMerged, member, sum_ahead}
-unfoldable pub use Rattle.par2_transform.specs.Subspaces.{power_sum, basis, bit_numbers, point, point_number, powers_in, vanishing}
-pub use Rattle.par2_transform.specs.LevelSteps.{AddsToRun, AheadAdded, IsButterfly, IsLowered, IsRaised, IsSpreadAbove, IsSpreadBelow, OneRun, RunAdded, RunAddedBy, SameValuesOutside, spread_beyond, spread_within}
-pub use Rattle.par2_transform.specs.Outputs.{Adds, AddsIn, AddsSlices, Fit, LieIn, product_in, row_in}
+pub use Rattle.par2_transform.specs.Polynomials.{AreListedValues, IsListed, listed_by, AreZeroFrom, AreValues, from, value, ArePowerSums, IsMerged, sum_ahead}
+pub use Rattle.par2_transform.specs.Locators.{AreNumbered, AreNumerators, HaveFirst, IsWeighed, in_coset, numerator, quotient_coefficient, quotient_sum}
+unfoldable pub use Rattle.par2_transform.specs.Polynomials.{power_sum, basis, bit_numbers, point, point_number, powers_in, vanishing}
 pub use Rattle.par2_transform.specs.declared.outputs.Columns.{Columns}
 pub use Rattle.par2_transform.specs.declared.outputs.Place.{Place}
 pub use Rattle.par2_transform.specs.declared.outputs.Places.{Places}
-pub use Rattle.par2_transform.specs.declared.outputs.Row.{Row}
-pub use Rattle.par2_transform.specs.declared.plan.Plan.{Plan}
+pub use Rattle.par2_transform.specs.declared.exponents.Plan.{Plan}
+
+-- the number of point u in coset q of subspace i
+abbrev pub member : ℕ → ℕ → ℕ → ℕ
+member i q u = q * 2 ^ i + u
+
+-- to the n values from `to` on, the values from `at` on are added
+abbrev pub RunAdded : ℕ → ℕ → ℕ → (ℕ → ℕ) → (ℕ → ℕ) → Type 0
+RunAdded = RunAddedBy (λ x. x)
+
+-- the value at x of the products of coefficients and x ^ (2 ^ j) that reach x ^ (2 ^ i) or higher
+abbrev pub spread_beyond : ℕ → (ℕ → ℕ) → ℕ → ℕ → ℕ
+spread_beyond i coefficients x j = field_sum (2 ^ j) (λ d. mul (coefficients (2 ^ i - 2 ^ j + d)) (pow x (2 ^ i + d)))
+
+-- and of those that stay below
+abbrev pub spread_within : ℕ → (ℕ → ℕ) → ℕ → ℕ → ℕ
+spread_within i coefficients x j = field_sum (2 ^ i - 2 ^ j) (λ d. mul (coefficients d) (pow x (2 ^ j + d)))
+
+-- the blocks, of `size` outputs each, are those of the outputs from exponent `first` on
+abbrev pub AreBlocks : Cut → ℕ → ℕ → ℕ → List Outputs → Type 0
+AreBlocks cut columns first size blocks = (j : ℕ) → j < length blocks → IsBlock cut columns (first + j * size) (outputs_at blocks j)

@@ -1,19 +1,16 @@
--- Sums of sources by the error locator.
-use Rattle.par2_transform.proofs.Common.{WordVector, word_of, map, inl, inr, suc, pow-suc, AreCopied, ℕ, ◌+◌, ◌-◌, ◌*◌, ◌%◌, ◌^◌, ◌<◌, ◌≤◌, ◌≡◌, sym, ap, ap₂, subst, ◌∙◌, arith, bit_xor, zero-add, add-mul, one-mul, List, length, get_or, slice_index, get_or_past, length-map, pow-le-pow_right, point_number, cases_lt, pow-add, mul-le-mul_right, xor_zero_l, mul, pow, GivesElements, product-lt, product_comm, product-one, product_assoc, product_linear_left, zero-product, power-lt, word-lt, field_sum, field_sum-lt, field_sum_same, field_sum_scaled, within, AddsAt, RowsGathered, AreByteLists, words_at, list_at, AreValues, AreWeights, value, from, Grid, column, EachColumn, ArePowerSums, power_sum, point, IsListed, AreListedValues, AreNumbered, AreNumerators, AreValuesOf, HaveFirst, IsWeighed, in_coset, numerator, quotient_sum, Place}
+-- Sums of sources by the error locator, and what they are made of.
+use Rattle.par2_transform.proofs.Common.{div-mul-le_self, div-add-mod', div-mul-add, mod-lt, pow_pos, pow_mono, ◌/◌, WordVector, word_of, map, inl, inr, suc, pow-suc, AreCopied, ℕ, ◌+◌, ◌-◌, ◌*◌, ◌%◌, ◌^◌, ◌<◌, ◌≤◌, ◌≡◌, sym, ap, ap₂, subst, ◌∙◌, arith, bit_xor, zero-add, add-mul, one-mul, List, length, get_or, slice_index, get_or_past, length-map, pow-le-pow_right, point_number, cases_lt, pow-add, mul-le-mul_right, xor_zero_l, mul, pow, GivesElements, product-lt, product_comm, product-one, product_assoc, product_linear_left, zero-product, power-lt, word-lt, field_sum, field_sum-lt, field_sum_same, field_sum_scaled, within, AddsAt, RowsGathered, AreByteLists, words_at, list_at, AreValues, AreWeights, value, from, Grid, column, EachColumn, ArePowerSums, power_sum, point, IsListed, AreListedValues, AreNumbered, AreNumerators, HaveFirst, IsWeighed, in_coset, numerator, quotient_sum, Place}
 use Rattle.std.proofs.lemmas.List.{get_or-map}
-use Rattle.par2_transform.proofs.AddingLaws.{adds_empty, adds_none, adds_range, adds_same, adds_whole, within-in, within-below, within-above, within_same, within_zero}
-use Rattle.par2_transform.specs.Combinations.{combined, IsCombination}
-use Rattle.par2_transform.proofs.CombinationLaws.{combined_same}
-use Rattle.par2_transform.specs.Locators.{AreCombinations, HoldNumerators}
+use Rattle.std.specs.Int.{IsPowerOfTwo}
+use Rattle.std.specs.Prelude.{max}
+use Rattle.par2_transform.proofs.Additions.{adds_empty, adds_none, adds_range, adds_same, adds_whole, within-in, within-below, within-above, within_same, within_zero, power_sum_plain, begins, columns_within, no_words, wider_fit, are_whole, whole_apart}
+use Rattle.par2_transform.specs.Polynomials.{combined, IsCombination}
+use Rattle.par2_transform.proofs.StepLaws.{combined_same}
+use Rattle.par2_transform.specs.Locators.{HoldNumerators}
 use Rattle.par2_transform.proofs.Chirps.{hankel_sum}
-use Rattle.par2_transform.proofs.OutputLaws.{power_sum_plain}
-use Rattle.par2_transform.proofs.Subspaces.{point_number-lt, point_of_number}
-use Rattle.par2_transform.proofs.Sums.{field_sum_swap, field_sum_linear}
-use Rattle.par2_transform.proofs.WindowLaws.{field_sum_short}
-use Rattle.par2_transform.proofs.ColumnLaws.{begins, columns_within, no_words, wider_fit}
+use Rattle.par2_transform.proofs.Subspaces.{point_number-lt, point_of_number, field_sum_swap, field_sum_linear}
+use Rattle.par2_transform.proofs.BlockLaws.{field_sum_short}
 use Rattle.par2_transform.proofs.GridLaws.{no_first, next_first}
-use Rattle.par2_transform.proofs.WholeBuffers.{are_whole, whole_apart}
-use Rattle.par2_transform.proofs.CosetLaws.{all_named, next_named, none_named}
 
 -- ---- the parts of a locator
 
@@ -21,6 +18,20 @@ pub shifted_most : (i : ℕ) → i ≤ 16 → 1 * 2 ^ i % 18446744073709551616 �
 shifted_most i few =
     let most : 2 ^ i ≤ 2 ^ 16 = pow-le-pow_right (let two : 0 < 2 = omega arith in two) few in
     omega (arith, most)
+
+-- levels for n elements and sums
+pub levels_fit : (n p k : ℕ) → n ≤ 65536 → IsPowerOfTwo p → n ≤ p → p / 2 < max 1 n → 2 ^ k ≤ p → p < 2 * 2 ^ k → (k ≤ 16) × (n ≤ 2 ^ k)
+levels_fit n p k most power enough least low high =
+    let under : p ≤ 65536 = elim (cases_lt 16 power.0) [
+      | inl more ↦ (let big : 2 ^ 17 ≤ 2 ^ power.0 = pow_mono {i = 17} {j = power.0} more in omega (arith, big, power.1, least, most))
+      | inr few ↦ (let small : 2 ^ power.0 ≤ 2 ^ 16 = pow_mono {i = power.0} {j = 16} few in omega (arith, small, power.1))
+    ] in
+    let few : k ≤ 16 = elim (cases_lt 16 k) [ inl more ↦ (let big : 2 ^ 17 ≤ 2 ^ k = pow_mono {i = 17} {j = k} more in absurd (omega (arith, big, low, under))) | inr few ↦ few ] in
+    let all : p ≤ 2 ^ k = elim (cases_lt k power.0) [
+      | inl more ↦ (let big : 2 ^ suc k ≤ 2 ^ power.0 = pow_mono {i = suc k} {j = power.0} more in absurd (omega (arith, big, power.1, high, pow-suc 2 k)))
+      | inr less ↦ (let small : 2 ^ power.0 ≤ 2 ^ k = pow_mono {i = power.0} {j = k} less in omega (arith, small, power.1))
+    ] in
+    (few, omega (arith, all, enough))
 
 -- fewer levels have fewer rows
 pub less_rows : (i k : ℕ) → i ≤ k → 2 ^ i ≤ 2 ^ k
@@ -136,25 +147,12 @@ numerator-lt sequence sources p t bytes fit =
 
 -- ---- combinations, and their values at points
 
-pub combinations_of : (k n : ℕ) (sums old cleared mid new : Grid) → n ≤ 2 ^ k → cleared.levels ≡ old.levels → cleared.words ≡ old.words → ((c u : ℕ) → column cleared c u ≡ 0)
-    → AreCopied n sums cleared mid → EachColumn (IsCombination n k) mid new → AreCombinations k n sums old new
-combinations_of k n sums old cleared mid new fits levels words zero copied combinations = record {
-  levels = combinations.levels ∙ copied.levels ∙ levels;
-  words = combinations.words ∙ copied.words ∙ words;
-  each = λ c x low hx.
-      combinations.columns c (omega (arith, low, copied.words, words)) (λ m high none. copied.rest c m high ∙ zero c m) x hx
-      ∙ short_value n k (column mid c) (column sums c) x fits (λ m h. copied.first c m h) (λ m h. copied.rest c m h ∙ zero c m);
-}
-
-pub values_of : (next : List ℕ) (k coset : ℕ) (combinations old mid new : Grid) → AreCopied (2 ^ k) combinations old mid
-    → EachColumn (AreListedValues (slice_index next) k coset) mid new → AreValuesOf next k coset combinations old new
-values_of next k coset combinations old mid new copied values = record {
-  levels = values.levels ∙ copied.levels;
-  words = values.words ∙ copied.words;
-  each = λ c u low here listed.
-      values.columns c (omega (arith, low, copied.words)) u here listed
-      ∙ combined_same k (column mid c) (column combinations c) (point (coset * 2 ^ k + u)) (λ m h. copied.first c m h);
-}
+pub combinations_of : (k n : ℕ) (sequence : List ℕ) (sources : List (List ℕ)) (at : ℕ) (was sums cleared mid new : Grid) → length sequence ≤ 2 ^ k → n ≡ length sequence → new.words ≡ was.words → ((c u : ℕ) → column cleared c u ≡ 0)
+    → AreNumerators n sequence sources at was sums → AreCopied (length sequence) sums cleared mid → EachColumn (IsCombination (length sequence) k) mid new → HoldNumerators k sequence sources at new
+combinations_of k n sequence sources at was sums cleared mid new fits all words zero numerators copied combinations c x low hx =
+    combinations.columns c (omega (arith, low, combinations.words)) (λ m high none. copied.rest c m high ∙ zero c m) x hx
+    ∙ short_value (length sequence) k (column mid c) (numerator sequence (words_at sources (at + c))) x fits
+    (λ m h. copied.first c m h ∙ numerators.each c m (omega (arith, low, words)) (omega (arith, h, all))) (λ m h. copied.rest c m h ∙ zero c m)
 
 -- ---- the product, by the numerator's values
 
@@ -176,14 +174,15 @@ by_numerator n b x h w hb hx hh hw =
     step a v p ha hv hp = product_assoc a v p ha hv hp ∙ ap (mul a) (product_comm v p hv hp) ∙ sym (product_assoc a p v ha hp hv)
 
 -- the addition of a point's value to its output
-pub given_is : (sequence points factors numbers next : List ℕ) (sources : List (List ℕ)) (k coset at : ℕ) (combinations old rows : Grid)
+pub given_is : (sequence points factors numbers next : List ℕ) (sources : List (List ℕ)) (k coset at : ℕ) (combinations old mid rows : Grid)
     → AreByteLists sources → GivesElements (slice_index sequence) → GivesElements (slice_index points) → GivesElements (slice_index factors) → AreNumbered points numbers next
-    → AreValuesOf next k coset combinations old rows → combinations.words ≡ old.words → HoldNumerators k sequence sources at combinations
+    → AreCopied (2 ^ k) combinations old mid → EachColumn (AreListedValues (slice_index next) k coset) mid rows → combinations.words ≡ old.words → HoldNumerators k sequence sources at combinations
     → (j p : ℕ) → j < length points → at ≤ p → p < at + old.words → coset * 2 ^ k ≤ get_or numbers j 0 → get_or numbers j 0 < coset * 2 ^ k + 2 ^ k
     → mul (get_or factors j 0) (column rows (p - at) (get_or numbers j 0 - coset * 2 ^ k)) ≡ quotient_sum sequence points factors (words_at sources p) j
-given_is sequence points factors numbers next sources k coset at combinations old rows bytes sequence_fit points_fit factors_fit numbered values same numerators j p low from_at within_words first last =
+given_is sequence points factors numbers next sources k coset at combinations old mid rows bytes sequence_fit points_fit factors_fit numbered copied values same numerators j p low from_at within_words first last =
     ap (mul b)
-    (values.each c u (omega (arith, from_at, within_words)) (omega (arith, first, last)) (subst (IsListed (slice_index next)) (sym number_is) (numbered.listed j low))
+    (values.columns c (omega (arith, from_at, within_words, copied.words)) u (omega (arith, first, last)) (subst (IsListed (slice_index next)) (sym number_is) (numbered.listed j low))
+    ∙ combined_same k (column mid c) (column combinations c) (point (coset * 2 ^ k + u)) (λ m h. copied.first c m h)
     ∙ ap (combined k (column combinations c)) (ap point number_is ∙ numbered.points_are j low)
     ∙ numerators c x (omega (arith, from_at, within_words, same)) (points_fit j)
     ∙ ap (λ q. value n (numerator sequence (words_at sources q)) x) place)
@@ -215,28 +214,27 @@ given_is sequence points factors numbers next sources k coset at combinations ol
 
 -- ---- one point
 
--- a coset lies within all points
-pub coset_fits : (k coset : ℕ) → k ≤ 16 → coset < 2 ^ (16 - k) → coset * 2 ^ k + 2 ^ k ≤ 65536
-coset_fits k coset few low =
-    let more : (coset + 1) * 2 ^ k ≤ 2 ^ (16 - k) * 2 ^ k = mul-le-mul_right (2 ^ k) (let s : coset + 1 ≤ 2 ^ (16 - k) = omega (arith, low) in s) in
-    let whole : 2 ^ (16 - k) * 2 ^ k ≡ 65536 = sym (pow-add 2 (16 - k) k) ∙ ap (λ m. 2 ^ m) (let e : 16 - k + k ≡ 16 = omega (arith, few) in e) in
-    let next : (coset + 1) * 2 ^ k ≡ coset * 2 ^ k + 2 ^ k = add-mul coset 1 (2 ^ k) ∙ ap (λ m. coset * 2 ^ k + m) (one-mul (2 ^ k)) in
-    omega (arith, more, whole, next)
+-- a point whose number, divided by the size of a coset, is the coset's
+pub number_in_coset : (k coset number : ℕ) → number < 65536 → number / 2 ^ k ≡ coset
+    → (coset * 2 ^ k % 18446744073709551616 ≡ coset * 2 ^ k) × (coset * 2 ^ k ≤ number) × (number < coset * 2 ^ k + 2 ^ k)
+number_in_coset k coset number small is =
+    let below : coset * 2 ^ k ≤ number = subst (λ q. q * 2 ^ k ≤ number) is (div-mul-le_self number (2 ^ k)) in
+    let whole : coset * 2 ^ k + number % 2 ^ k ≡ number = subst (λ q. q * 2 ^ k + number % 2 ^ k ≡ number) is (div-add-mod' number (2 ^ k)) in
+    let rest : number % 2 ^ k < 2 ^ k = mod-lt number {m = 2 ^ k} (pow_pos k) in
+    (omega (arith, below, small), below, omega (arith, whole, rest))
 
-pub coset_first : (k coset : ℕ) → k ≤ 16 → coset < 2 ^ (16 - k) → coset * 2 ^ k % 18446744073709551616 ≡ coset * 2 ^ k
-coset_first k coset few low = omega (arith, coset_fits k coset few low)
-
-pub point_before : (places : List Place) (len : ℕ) (numbers : List ℕ) (k coset j : ℕ) (given : ℕ → ℕ) (buffers : List (List ℕ)) → get_or numbers j 0 < coset * 2 ^ k
+-- a point outside of a coset
+pub point_outside : (places : List Place) (len : ℕ) (numbers : List ℕ) (k coset j : ℕ) (given : ℕ → ℕ) (buffers : List (List ℕ)) → (get_or numbers j 0 / 2 ^ k ≡ coset → ⊥)
     → AddsAt places len (λ t p. within j (j + 1) t (in_coset numbers k coset j (given p))) buffers buffers
-point_before places len numbers k coset j given buffers before =
+point_outside places len numbers k coset j given buffers outside =
     adds_none places len (λ t p. within j (j + 1) t (in_coset numbers k coset j (given p))) buffers
-    (λ t p. within_zero j (j + 1) t (in_coset numbers k coset j (given p)) (within-below (coset * 2 ^ k) (coset * 2 ^ k + 2 ^ k) (get_or numbers j 0) (given p) before))
-
-pub point_behind : (places : List Place) (len : ℕ) (numbers : List ℕ) (k coset j : ℕ) (given : ℕ → ℕ) (buffers : List (List ℕ)) → coset * 2 ^ k + 2 ^ k ≤ get_or numbers j 0
-    → AddsAt places len (λ t p. within j (j + 1) t (in_coset numbers k coset j (given p))) buffers buffers
-point_behind places len numbers k coset j given buffers behind =
-    adds_none places len (λ t p. within j (j + 1) t (in_coset numbers k coset j (given p))) buffers
-    (λ t p. within_zero j (j + 1) t (in_coset numbers k coset j (given p)) (within-above (coset * 2 ^ k) (coset * 2 ^ k + 2 ^ k) (get_or numbers j 0) (given p) behind))
+    (λ t p. within_zero j (j + 1) t (in_coset numbers k coset j (given p)) (elim (cases_lt (get_or numbers j 0) (coset * 2 ^ k)) [
+      | inl before ↦ within-below (coset * 2 ^ k) (coset * 2 ^ k + 2 ^ k) (get_or numbers j 0) (given p) before
+      | inr first ↦ elim (cases_lt (get_or numbers j 0) (coset * 2 ^ k + 2 ^ k)) [
+        | inl last ↦ absurd (outside (subst (λ n. n / 2 ^ k ≡ coset) (let e : coset * 2 ^ k + (get_or numbers j 0 - coset * 2 ^ k) ≡ get_or numbers j 0 = omega (arith, first) in e) (div-mul-add coset (2 ^ k) (get_or numbers j 0 - coset * 2 ^ k) (omega (arith, first, last)))))
+        | inr behind ↦ within-above (coset * 2 ^ k) (coset * 2 ^ k + 2 ^ k) (get_or numbers j 0) (given p) behind
+      ]
+    ]))
 
 pub point_taken : (places : List Place) (len : ℕ) (numbers : List ℕ) (k coset j at to c b u : ℕ) (row : List WordVector) (rows : Grid) (was buffers : List (List ℕ)) → c ≡ b → ((q : ℕ) → word_of row q ≡ column rows q u)
     → u ≡ get_or numbers j 0 - coset * 2 ^ k → coset * 2 ^ k ≤ get_or numbers j 0 → get_or numbers j 0 < coset * 2 ^ k + 2 ^ k
@@ -315,9 +313,4 @@ all_cosets places len numbers k at to n given was buffers few is small added =
     adds_whole (λ t p. get_or numbers t 0) (λ t p. within at to p (given t p)) (n * 2 ^ k) added (λ t p h fits. omega (arith, whole, small t))
 
 -- what `auto` is given for the code
-pub ruleset steps = (none_added_yet, shifted_most, no_first, are_whole, whole_apart, begins, columns_within, no_words)
-
--- and what it is given for the locator and for cosets
-pub ruleset locating = (less_rows, shifted_most, columns_within, no_words, no_coset, wider_fit, none_added_yet, all_added, whole_apart, are_whole, none_named, next_named, all_named)
-
-pub ruleset fills = (no_first, next_first, one_times, words_at-lt)
+pub ruleset locating = (get_or_past, less_rows, shifted_most, begins, columns_within, no_words, no_coset, wider_fit, none_added_yet, all_added, whole_apart, are_whole, no_first, next_first, one_times, words_at-lt)

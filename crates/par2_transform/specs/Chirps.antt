@@ -1,10 +1,8 @@
 -- Chirps: a power of 2 whose exponent is a product, as a product of powers that depend on one number each (L. I.
 -- Bluestein, "A linear filtering approach to the computation of the discrete Fourier transform", 1970).
-use Rattle.std.specs.Prelude.{ℕ, zero, suc, ◌≡◌, ◌<◌, ◌≤◌, ◌+◌, ◌*◌, ◌^◌, if◌then◌else◌, List, length, slice_index}
-use Rattle.par2_spec.specs.Field.{mul, pow, is_coprime}
-use Rattle.par2_spec.specs.Sums.{field_sum, GivesElements}
-use Rattle.par2_transform.specs.Subspaces.{point}
-use Rattle.par2_transform.specs.Evaluations.{value}
+use Rattle.std.specs.Prelude.{ℕ, zero, suc, ◌≡◌, ◌<◌, ◌≤◌, ◌+◌, ◌*◌, ◌^◌, if◌then◌else◌, List, length, slice_index, map}
+use Rattle.par2_spec.specs.Prelude.{Bor, mul, pow, is_coprime, coefficient, field_sum, GivesElements, list_at, word}
+use Rattle.par2_transform.specs.Polynomials.{point, value}
 
 -- the sum of the numbers below n, a triangular number
 unfoldable pub triangle : ℕ → ℕ
@@ -47,10 +45,7 @@ pub record AreWordsOfFirst (n : ℕ) (words : ℕ → ℕ) : Type 0 where
   pub none : (i : ℕ) → n ≤ i → words i ≡ 0
   pub fit : GivesElements words
 
--- ---- a sum over slices by windows: their values at the points, and the weighted sum of these
-
--- how a sum is cut: the exponents of constants in `classes` residue classes, `windows` windows of `window` numbers in
--- each class, and 2 ^ `levels` points
+-- how a sum is cut: residue classes of the constants' exponents, windows of numbers in each, and 2 ^ `levels` points
 pub record Cut : Type 0 where
   pub classes : ℕ
   pub windows : ℕ
@@ -78,7 +73,33 @@ pub record HasWeights (cut : Cut) (e : ℕ) (weights : ℕ → ℕ → ℕ) : Ty
   pub fit : (a : ℕ) → GivesElements (weights a)
   pub are : (a : ℕ) → a < cut.windows → AreWeights cut.levels (chirp cut.classes) (a * cut.window + e) (weights a)
 
--- the part of class r in a word of the recovery slice of exponent e + t
-abbrev pub class_part : Cut → (ℕ → ℕ → ℕ) → (ℕ → ℕ) → ℕ → ℕ → ℕ → ℕ
-class_part cut weights words e t r =
-    mul (mul (pow 2 ((e + t) * r)) (chirp_inverse cut.classes (e + t))) (field_sum (2 ^ cut.levels) (λ u. mul (gathered cut weights words r u) (pow (point u) t)))
+-- the part of class r in a word of the recovery slice of exponent e + t: power sum t of the gathered sums, times a factor
+abbrev pub from_gathered : Cut → (ℕ → ℕ) → ℕ → ℕ → ℕ → ℕ
+from_gathered cut sums e t r =
+    mul (mul (pow 2 ((e + t) * r)) (chirp_inverse cut.classes (e + t))) (field_sum (2 ^ cut.levels) (λ u. mul (sums u) (pow (point u) t)))
+
+-- the bytes of each buffer
+abbrev pub byte_lists : List (Bor (List ℕ)) → List (List ℕ)
+byte_lists buffers = map (λ bytes. bytes.now) buffers
+
+-- all entries of all lists are bytes
+abbrev pub AreByteLists : List (List ℕ) → Type 0
+AreByteLists lists = (i k : ℕ) → slice_index (list_at lists i) k < 2 ^ 8
+
+-- word p of each buffer
+abbrev pub words_at : List (List ℕ) → ℕ → ℕ → ℕ
+words_at buffers p i = word p (list_at buffers i)
+
+-- word c of row m: coefficient m of window a of class r
+abbrev pub coefficients_from : Cut → List (List ℕ) → ℕ → ℕ → ℕ → ℕ → ℕ → ℕ
+coefficients_from cut slices r a from c m = coefficient_of cut (words_at slices (from + c)) r (a * cut.window + m)
+
+-- for each exponent, the number of the slice whose constant has it, and 65,535 if none has; up to the last of n slices
+pub record AreNumbers (n : ℕ) (numbers : List ℕ) : Type 0 where
+  pub few : length numbers ≤ 65536
+  pub reach : n ≤ coprimes_below (length numbers)
+  pub each : (m : ℕ) → m < length numbers → slice_index numbers m ≡ (if is_coprime m then coprimes_below m else 65535)
+
+-- word p of the recovery slice of exponent e over the slices
+abbrev pub recovered : List (List ℕ) → ℕ → ℕ → ℕ
+recovered slices e p = field_sum (length slices) (λ i. mul (coefficient e i) (words_at slices p i))

@@ -1,12 +1,5 @@
-pub mod Subspaces
-pub mod Evaluations
-pub mod Combinations
+pub mod Polynomials
 pub mod Chirps
-pub mod Grids
-pub mod LevelSteps
-pub mod Columns
-pub mod Adding
-pub mod Blocks
+pub mod Rows
 pub mod Outputs
 pub mod Locators
-pub mod Products

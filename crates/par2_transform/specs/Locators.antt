@@ -1,17 +1,11 @@
 -- Sums of products by the error locator of lost slices (W. W. Peterson, "Encoding and error-correction procedures for
--- the Bose-Chaudhuri codes", 1960; G. D. Forney, "On decoding BCH codes", 1965). A polynomial whose roots are the
--- points is divided by z minus one of them. Coefficient s of the quotient is the value, at that point, of the
--- polynomial's coefficients from s + 1 on. `sequence` has the polynomial's coefficients from 1 on.
+-- the Bose-Chaudhuri codes", 1960; G. D. Forney, "On decoding BCH codes", 1965). `sequence` has the coefficients from
+-- 1 on of a polynomial whose roots are the points. Its quotients are those on division by z minus one of them.
 use Rattle.std.specs.Prelude.{ℕ, ◌≡◌, ◌<◌, ◌≤◌, ◌+◌, ◌*◌, ◌^◌, List, length, slice_index}
-use Rattle.par2_spec.specs.Field.{mul}
-use Rattle.par2_spec.specs.Sums.{field_sum, GivesElements}
-use Rattle.par2_transform.specs.Adding.{within}
-use Rattle.par2_transform.specs.Chirps.{AreWeights}
-use Rattle.par2_transform.specs.Columns.{words_at}
-use Rattle.par2_transform.specs.Combinations.{combined, IsListed}
-use Rattle.par2_transform.specs.Evaluations.{value, from}
-use Rattle.par2_transform.specs.Grids.{Grid, column}
-use Rattle.par2_transform.specs.Subspaces.{point}
+use Rattle.par2_spec.specs.Prelude.{mul, field_sum, GivesElements}
+use Rattle.par2_transform.specs.Rows.{within, Grid, column}
+use Rattle.par2_transform.specs.Chirps.{AreWeights, words_at}
+use Rattle.par2_transform.specs.Polynomials.{combined, IsListed, value, from, point}
 
 -- coefficient s of the quotient for point j, times the point's factor
 abbrev pub quotient_coefficient : (sequence points factors : List ℕ) → ℕ → ℕ → ℕ
@@ -22,9 +16,7 @@ quotient_coefficient sequence points factors j s =
 abbrev pub quotient_sum : (sequence points factors : List ℕ) → (ℕ → ℕ) → ℕ → ℕ
 quotient_sum sequence points factors words j = field_sum (length sequence) (λ s. mul (quotient_coefficient sequence points factors j s) (words s))
 
--- The words, in a repair the syndromes, times the elements of the sequence from t on. If the sequence has the coefficients
--- of the error locator from 1 on, this is coefficient t of the numerator, the error evaluator of Forney's formula
--- (Forney 1965).
+-- coefficient t of the numerator, the error evaluator (Forney 1965), if the words are syndromes
 abbrev pub numerator : List ℕ → (ℕ → ℕ) → ℕ → ℕ
 numerator sequence words t = field_sum (length sequence) (λ s. mul (slice_index sequence (s + t)) (words s))
 
@@ -55,22 +47,10 @@ pub record AreNumerators (n : ℕ) (sequence : List ℕ) (sources : List (List �
   pub words : new.words ≡ old.words
   pub each : (c t : ℕ) → c < old.words → t < n → column new c t ≡ numerator sequence (words_at sources (at + c)) t
 
--- the rows are combinations, each the polynomial whose coefficients are the first n rows of the sums
-pub record AreCombinations (k n : ℕ) (sums old new : Grid) : Type 0 where
-  pub levels : new.levels ≡ old.levels
-  pub words : new.words ≡ old.words
-  pub each : (c x : ℕ) → c < old.words → x < 2 ^ 16 → combined k (column new c) x ≡ value n (column sums c) x
-
 -- the combinations are the numerators over the sources' words from `at` on
 abbrev pub HoldNumerators : ℕ → List ℕ → List (List ℕ) → ℕ → Grid → Type 0
 HoldNumerators k sequence sources at combinations =
     (c x : ℕ) → c < combinations.words → x < 2 ^ 16 → combined k (column combinations c) x ≡ value (length sequence) (numerator sequence (words_at sources (at + c))) x
-
--- the rows have the values of the combinations at the listed points of a coset
-pub record AreValuesOf (next : List ℕ) (k coset : ℕ) (combinations old new : Grid) : Type 0 where
-  pub levels : new.levels ≡ old.levels
-  pub words : new.words ≡ old.words
-  pub each : (c u : ℕ) → c < old.words → u < 2 ^ k → IsListed (slice_index next) (coset * 2 ^ k + u) → column new c u ≡ combined k (column combinations c) (point (coset * 2 ^ k + u))
 
 -- x if point j is in the coset, and 0 otherwise
 abbrev pub in_coset : List ℕ → ℕ → ℕ → ℕ → ℕ → ℕ

@@ -4,28 +4,19 @@
 //!
 //! `par2_create` and `par2_solve` use it, and it uses `par2_gf16`. It knows buffers of words, exponents and points,
 //! but no files, packets or checksums. The theorems that it rests on are contracts of functions with empty bodies, in
-//! `laws`.
+//! `recovery`.
 #![tactic(auto, using(crate::proofs::LocatorLaws::locating))]
 
-mod basis;
-mod blocks;
-mod buffers;
-mod cosets;
 mod exponents;
-pub mod laws;
-mod levels;
+mod fourier;
 mod locator;
-mod numerators;
 mod outputs;
-mod plan;
-mod powers;
 mod recovery;
 mod rows;
-mod vectors;
-mod weights;
 mod windows;
 
-pub use locator::Locator;
-pub use numerators::Numerators;
+pub use locator::{Locator, Numerators};
 pub use outputs::{Columns, Place, Places};
-pub use recovery::{Transform, whole_buffers};
+pub use recovery::{
+    Transform, products_by_chirps, subspaces_vanish, sums_by_windows, whole_buffers,
+};

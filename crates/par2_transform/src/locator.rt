@@ -1,30 +1,185 @@
-//! The product of the quotients of a polynomial and sources. A polynomial is divided by z minus each of its roots: the
-//! coefficients of the quotients are a matrix with a row for each root. For L roots, its product with L sources takes
-//! about L log L products of sources here and not L x L. The sums of products with the polynomial's coefficients are
-//! the coefficients of the numerator, Forney's error evaluator (see `numerators`). The values of the numerator at the
-//! roots, scaled, are the product.
+//! Products of matrices and sources, in about n log n products of sources.
+//!
+//! `Numerators` multiplies the Hankel matrix of a sequence: sum t is that of all sources, source s times element s + t of
+//! the sequence. If the sequence has the coefficients of an error locator and the sources are syndromes, these sums are
+//! the coefficients of the numerator, Forney's error evaluator (Forney 1965), or right-hand sides of the locator's
+//! recurrence.
+//!
+//! `Locator` divides a polynomial by z minus each of its roots: the coefficients of the quotients are a matrix with a row
+//! for each root. For L roots, its product with L sources takes about L log L products of sources here and not L x L. The
+//! values of the numerator at the roots, scaled, are the product.
 
-ghost use Rattle.std.specs.Prelude.{◌≡◌, ◌+◌, ◌-◌, ◌*◌, ◌^◌, ◌<◌, ◌≤◌, length, map, slice_index, IfOk};
-ghost use Rattle.par2_spec.specs.Field.{mul};
-ghost use Rattle.par2_spec.specs.Sums.{lists_of, GivesElements};
-ghost use Rattle.par2_transform.specs.Adding.{within, AddsToEach, HaveWords};
-ghost use Rattle.par2_transform.specs.Columns.{byte_lists, AreByteLists};
-ghost use Rattle.par2_transform.specs.Grids.{column, HasSize};
-ghost use Rattle.par2_transform.specs.Subspaces.{point_number};
-ghost use Rattle.par2_transform.specs.Outputs.{Adds, AddsIn, LieIn};
-ghost use Rattle.par2_transform.specs.Locators.{AreCombinations, AreNumbered, AreValuesOf, HoldNumerators, in_coset};
+ghost use Rattle.std.specs.Prelude.{◌≡◌, ◌+◌, ◌-◌, ◌^◌, ◌<◌, ◌≤◌, length, slice_index, IfOk};
+ghost use Rattle.par2_spec.specs.Prelude.{lists_of, GivesElements};
+ghost use Rattle.par2_transform.specs.Rows.{within, AddsToEach, HaveWords, HasSize};
+ghost use Rattle.par2_transform.specs.Chirps.{Tabulates, byte_lists, words_at, AreByteLists};
+ghost use Rattle.par2_transform.specs.Locators.{AreNumbered, AreNumerators, HaveFirst, HoldNumerators, IsWeighed, in_coset};
 
-use crate::basis::point_number;
-use crate::cosets::{list, values_in_coset};
-use crate::levels::to_combinations;
-use crate::numerators::{Numerators, Scratch, word_or_zero};
+use crate::exponents::{buffer_at, buffers_fit, bytes_from, columns_for};
+use crate::fourier::{
+    fit_words, list, point_number, power_sums, to_combinations, values_at_points, values_in_coset,
+    weights,
+};
 use crate::outputs::{Columns, Places};
-use crate::plan::columns_for;
 use crate::recovery::whole_buffers;
 use crate::rows::Rows;
-use crate::weights::fit_words;
-use par2_gf16::Gf;
+use crate::windows::gather_rows;
+use par2_gf16::{Factor, Gf};
 use std::alloc::{AllocError, Global};
+
+/// The Hankel matrix of a sequence: row t, of which there are `count`, has the elements from t on. Elements past the end
+/// are 0.
+#[derive(Drop)]
+pub struct Numerators {
+    pub sequence: Vec<u16>,
+    pub count: usize,
+    pub(crate) levels: u32,
+    weights: Vec<u16>,
+    ghost few: { levels ≤ 16 },
+    ghost fit: { length sequence.items + count ≤ 2 ^ levels },
+    ghost weighed: { IsWeighed levels sequence.items weights.items },
+    ghost elements: { GivesElements (slice_index sequence.items) },
+}
+
+/// Scratch for sums of sources: two sets of rows of one shape.
+#[derive(Drop)]
+pub(crate) struct Scratch {
+    pub(crate) rows: Rows,
+    pub(crate) sums: Rows,
+    ghost same_levels: { sums.levels ≡ rows.levels },
+    ghost same_words: { sums.words ≡ rows.words },
+}
+
+// The word at `place`, or 0 past the end.
+fn word_or_zero(words: &[u16], place: usize) -> u16
+    ensures { result ≡ slice_index words.now place }
+{
+    if place < words.len() { words[place] } else { 0 }
+}
+
+// The first `count` words, padded with zeros if there are fewer.
+#[tactic(auto, using(crate::proofs::BlockLaws::tables))]
+fn padded(alloc: Global, words: &[u16], count: usize) -> Result<Vec<u16>, AllocError>
+    ensures { IfOk result (λ all. Tabulates (slice_index words.now) count all.items) }
+{
+    (0..count).map(|i| word_or_zero(words, i)).collect(alloc)
+}
+
+// Copies the words of source s, from word `from` on, to row s: as many as a row has, and zeros for those past the
+// source's end. The rows after the last source become zero.
+fn fill(sources: &[&[u8]], from: usize, rows: &mut Rows)
+    requires { length sources.now ≤ 2 ^ rows.old.levels }
+    ensures bytes { AreByteLists (byte_lists sources.now) }
+    ensures rows { HaveFirst (length sources.now)
+        (λ c s. words_at (byte_lists sources.now) (from + c) s) rows.old rows.new }
+{
+    buffers_fit(sources);
+    rows.clear();
+    let factor = Factor::new(1);
+    for s in 0..sources.len() {
+        rows.add_bytes(&factor, bytes_from(buffer_at(sources, s), from), s);
+    }
+}
+
+impl Numerators {
+    ghost use Rattle.par2_transform.specs.Outputs.{AddsIn, Fit, numerator_word};
+
+    /// For this sequence and `count` sums. Computes the weights of the points. An error is that memory ran out.
+    pub fn new(
+        alloc: Global,
+        gf: &Gf,
+        sequence: Vec<u16>,
+        count: usize,
+    ) -> Result<Numerators, AllocError>
+        requires { length sequence.items + count ≤ 65536 }
+        ensures sequence { IfOk result (λ made. made.sequence.items ≡ sequence.items) }
+        ensures count { IfOk result (λ made. made.count ≡ count) }
+    {
+        // With fewer points, the sums would wrap around.
+        let levels = (sequence.len() + count).next_power_of_two().ilog2();
+        let mut points = padded(alloc, &sequence, 1 << levels)?;
+        weights(gf, points.as_mut_slice(), levels);
+        fit_words(&sequence);
+        Ok(Numerators {
+            sequence,
+            count,
+            levels,
+            weights: points,
+        })
+    }
+
+    /// Computes the sums of the sources' words from word `from` on, sum t in row t of `sums`.
+    pub(crate) fn sum(&self, sources: &[&[u8]], from: usize, scratch: &mut Scratch)
+        // There is a source for each element, and the rows have one for each point.
+        requires count { length sources.now ≡ length self.now.sequence.items }
+        requires levels { scratch.old.rows.levels ≡ self.now.levels }
+        // For the prover: the sources are bytes.
+        ensures bytes { AreByteLists (byte_lists sources.now) }
+        // The first rows of `sums` are the numerators.
+        ensures numerators { AreNumerators self.now.count self.now.sequence.items
+            (byte_lists sources.now) from scratch.old.sums scratch.new.sums }
+    {
+        fill(sources, from, &mut scratch.rows);
+        values_at_points(&mut scratch.rows, sources.len());
+        scratch.sums.clear();
+        gather_rows(&self.weights, &scratch.rows, &mut scratch.sums);
+        power_sums(&mut scratch.sums);
+    }
+
+    // Adds sum t to output t in these columns.
+    fn add_columns(
+        &self,
+        sources: &[&[u8]],
+        columns: &Columns,
+        scratch: &mut Scratch,
+        buffers: &mut [Vec<u8>],
+    )
+        // There is a source for each element and a sum for each output, and the rows have one for each point.
+        requires sources { length sources.now ≡ length self.now.sequence.items }
+        requires count { length columns.now.outputs.places.now ≤ self.now.count }
+        requires levels { scratch.old.rows.levels ≡ self.now.levels }
+        // These columns fit the rows, and the outputs lie inside the buffers.
+        requires fits { Fit scratch.old.rows.words columns.now buffers.old }
+        // The rows keep their shape, so that the next columns can use them.
+        ensures size { HasSize scratch.old.rows.levels scratch.old.rows.words scratch.new.rows }
+        // Each output gets its sum in these columns. Nothing else changes.
+        ensures added { AddsIn columns.now (numerator_word self.now sources.now) buffers.old buffers.new }
+    {
+        self.sum(sources, columns.from, scratch);
+        for t in 0..columns.outputs.len() {
+            columns.add_products(1, scratch.sums.row(t), buffers, t);
+        }
+    }
+
+    /// Adds sum t to buffer t, some columns at a time. Takes about `room` bytes of memory beside the buffers, or the least
+    /// it can, which is two rows of 32 words for each of 2 ^ levels points.
+    pub fn add_sums(
+        &self,
+        alloc: Global,
+        sources: &[&[u8]],
+        words: usize,
+        buffers: &mut [Vec<u8>],
+        room: usize,
+    ) -> Result<(), AllocError>
+        requires sources { length sources.now ≡ length self.now.sequence.items }
+        requires count { length buffers.old ≤ self.now.count }
+        requires size { HaveWords words (lists_of buffers.old) }
+        ensures { IfOk result (λ _. AddsToEach (numerator_word self.now sources.now)
+            (lists_of buffers.old) (lists_of buffers.new)) }
+    {
+        let places = whole_buffers(alloc, buffers.len())?;
+        let outputs = Places::new(&places, words);
+        let width = columns_for(2 << self.levels, words, room);
+        let rows = Rows::new(alloc, self.levels, width)?;
+        let sums = Rows::new(alloc, self.levels, width)?;
+        let mut scratch = Scratch { rows, sums };
+        for k in 0..outputs.words.div_ceil(width) {
+            let columns = outputs.columns(k, width);
+            self.add_columns(sources, &columns, &mut scratch, buffers);
+        }
+        Ok(())
+    }
+}
 
 /// Multiplies sources by the quotients of a polynomial on division by z minus each of the points. Each quotient is
 /// scaled by a factor. The sequence of the numerators has the polynomial's coefficients from 1 on.
@@ -46,15 +201,8 @@ pub struct Locator {
     ghost numbered: { AreNumbered points.items numbers.items next.items },
 }
 
-// The numbers of the points, in order: which row of which coset each belongs to.
-fn numbers_of(alloc: Global, points: &[u16]) -> Result<Vec<u16>, AllocError>
-    ensures { IfOk result (λ numbers. numbers.items ≡ map point_number points.now) }
-{
-    points.iter().map(|x| point_number(*x)).collect(alloc)
-}
-
 impl Locator {
-    ghost use Rattle.par2_transform.specs.Products.{Serves, quotient_word};
+    ghost use Rattle.par2_transform.specs.Outputs.{Adds, AddsIn, Serves, quotient_word};
 
     /// For the polynomial with these coefficients from 1 on (`sequence`), its roots (`points`) and a factor for each.
     /// Computes the numbers of the points and what the numerators need. An error is that memory ran out.
@@ -73,7 +221,7 @@ impl Locator {
     {
         let count = sequence.len();
         let numerators = Numerators::new(alloc, gf, sequence, count)?;
-        let numbers = numbers_of(alloc, &points)?;
+        let numbers: Vec<u16> = points.iter().map(|x| point_number(*x)).collect(alloc)?;
         let next = list(alloc, &numbers)?;
         fit_words(&points);
         fit_words(&factors);
@@ -86,66 +234,6 @@ impl Locator {
             next,
             levels,
         })
-    }
-
-    // Replaces the rows by the numerators, whose coefficients are the first sums, as combinations of products of subspace
-    // polynomials.
-    fn combine(&self, scratch: &mut Scratch)
-        requires { scratch.old.rows.levels ≡ self.now.numerators.levels }
-        ensures { AreCombinations self.now.levels (length self.now.numerators.sequence.items)
-            scratch.old.sums scratch.old.rows scratch.new.rows }
-    {
-        scratch.rows.clear();
-        let count = self.numerators.sequence.len();
-        scratch.rows.copy_from(&scratch.sums, count);
-        to_combinations(&mut scratch.rows, self.levels, count);
-    }
-
-    // Replaces the sums by the values of the combinations in the rows, at the points in the coset with this number.
-    fn evaluate(&self, coset: usize, scratch: &mut Scratch)
-        requires coset { coset < 2 ^ (16 - self.now.levels) }
-        requires levels { scratch.old.rows.levels ≡ self.now.numerators.levels }
-        ensures kept { scratch.new.rows ≡ scratch.old.rows }
-        ensures values { AreValuesOf self.now.next.items self.now.levels coset
-            scratch.old.rows scratch.old.sums scratch.new.sums }
-    {
-        scratch.sums.copy_from(&scratch.rows, 1 << self.levels);
-        let sums = &mut scratch.sums;
-        values_in_coset(sums, Some(&self.next), self.levels, coset as u16);
-    }
-
-    // Adds the value at point j, times its factor, to output j in these columns, if the point is in the coset whose
-    // values are in the rows.
-    fn add_point(
-        &self,
-        coset: usize,
-        j: usize,
-        columns: &Columns,
-        rows: &Rows,
-        buffers: &mut [Vec<u8>],
-    )
-        // The coset and the output exist.
-        requires coset { coset < 2 ^ (16 - self.now.levels) }
-        requires place { j < length columns.now.outputs.places.now }
-        requires serves { Serves self.now columns.now rows.now buffers.old }
-        // The scaled value is added to output j if its point is in the coset, and nothing else changes.
-        ensures { Adds columns.now.outputs
-            (λ t p. within j (j + 1) t (in_coset self.now.numbers.items self.now.levels coset j
-            (within columns.now.from columns.now.to p (mul (slice_index self.now.factors.items j)
-            (column rows.now (p - columns.now.from)
-            (slice_index self.now.numbers.items j - coset * 2 ^ self.now.levels))))))
-            buffers.old buffers.new }
-    {
-        let number = word_or_zero(&self.numbers, j) as usize;
-        let first = coset << self.levels;
-        if number < first {
-            return;
-        }
-        let u = number - first;
-        if u < 1 << self.levels {
-            let factor = word_or_zero(&self.factors, j);
-            columns.add_products(factor, rows.row(u), buffers, j);
-        }
     }
 
     // Evaluates the numerators at the points in the coset, and adds the values, times their factors, to these columns of
@@ -174,13 +262,20 @@ impl Locator {
             (within columns.now.from columns.now.to p (quotient_word self.now sources.now t p)))
             buffers.old buffers.new }
     {
-        self.evaluate(coset, scratch);
+        scratch.sums.copy_from(&scratch.rows, 1 << self.levels);
+        let sums = &mut scratch.sums;
+        values_in_coset(sums, Some(&self.next), self.levels, coset as u16);
         for j in 0..columns.outputs.len() {
-            self.add_point(coset, j, columns, &scratch.sums, buffers);
+            let number = self.numbers[j] as usize;
+            if number >> self.levels == coset {
+                let row = scratch.sums.row(number - (coset << self.levels));
+                columns.add_products(self.factors[j], row, buffers, j);
+            }
         }
     }
 
-    // Adds the sums to these columns of the outputs: computes the numerators, then adds coset by coset.
+    // Adds the sums to these columns of the outputs: computes the numerators, divides them into combinations, and adds
+    // coset by coset.
     fn add_columns(
         &self,
         sources: &[&[u8]],
@@ -197,36 +292,13 @@ impl Locator {
         ensures added { AddsIn columns.now (quotient_word self.now sources.now) buffers.old buffers.new }
     {
         self.numerators.sum(sources, columns.from, scratch);
-        self.combine(scratch);
+        let count = self.numerators.sequence.len();
+        scratch.rows.clear();
+        scratch.rows.copy_from(&scratch.sums, count);
+        to_combinations(&mut scratch.rows, self.levels, count);
         for coset in 0..1usize << (16 - self.levels) {
             self.add_coset(sources, coset, columns, scratch, buffers);
         }
-    }
-
-    // Adds the sums to the outputs, some columns at a time: as many as `room` bytes allow.
-    fn add_words(
-        &self,
-        alloc: Global,
-        sources: &[&[u8]],
-        buffers: &mut [Vec<u8>],
-        outputs: &Places,
-        room: usize,
-    ) -> Result<(), AllocError>
-        requires sources { length sources.now ≡ length self.now.numerators.sequence.items }
-        requires count { length outputs.now.places.now ≡ length self.now.points.items }
-        requires room { LieIn outputs.now buffers.old }
-        ensures { IfOk result (λ _. Adds outputs.now (quotient_word self.now sources.now)
-            buffers.old buffers.new) }
-    {
-        let width = columns_for(2 << self.numerators.levels, outputs.words, room);
-        let rows = Rows::new(alloc, self.numerators.levels, width)?;
-        let sums = Rows::new(alloc, self.numerators.levels, width)?;
-        let mut scratch = Scratch { rows, sums };
-        for k in 0..outputs.words.div_ceil(width) {
-            let columns = outputs.columns(k, width);
-            self.add_columns(sources, &columns, &mut scratch, buffers);
-        }
-        Ok(())
     }
 
     /// Adds to buffer j the sum of the sources, each times its coefficient of the quotient for point j. Takes about
@@ -248,6 +320,15 @@ impl Locator {
     {
         let places = whole_buffers(alloc, buffers.len())?;
         let outputs = Places::new(&places, words);
-        self.add_words(alloc, sources, buffers, &outputs, room)
+        let levels = self.numerators.levels;
+        let width = columns_for(2 << levels, words, room);
+        let rows = Rows::new(alloc, levels, width)?;
+        let sums = Rows::new(alloc, levels, width)?;
+        let mut scratch = Scratch { rows, sums };
+        for k in 0..outputs.words.div_ceil(width) {
+            let columns = outputs.columns(k, width);
+            self.add_columns(sources, &columns, &mut scratch, buffers);
+        }
+        Ok(())
     }
 }

@@ -1,13 +1,13 @@
 //! Outputs at their places inside buffers. A buffer may hold several outputs, with other bytes between them.
-#![tactic(auto, using(crate::proofs::AddingLaws::steps))]
+//! Also padded copies and sums of buffers.
+#![tactic(auto, using(crate::proofs::Additions::adding_steps))]
 
-ghost use Rattle.std.specs.Prelude.{◌≡◌, ◌+◌, ◌-◌, ◌*◌, ◌%◌, ◌<◌, ◌≤◌, length, min, take, drop};
-ghost use Rattle.par2_gf16.specs.Products.{AddsTo};
-ghost use Rattle.par2_spec.specs.Slices.{word};
-ghost use Rattle.par2_spec.specs.Sums.{OneChanged, list_at, lists_of};
-ghost use Rattle.par2_transform.specs.Adding.{row_size, row_word, within, place_at, AddsToPart, AreApart};
+ghost use Rattle.std.specs.Prelude.{◌≡◌, ◌+◌, ◌-◌, ◌*◌, ◌<◌, ◌≤◌, length, min, take, drop, ℕ, ◌^◌, slice_index};
+ghost use Rattle.par2_gf16.specs.Tables.{AddsTo};
+ghost use Rattle.par2_gf16.specs.Words.{word_of};
+ghost use Rattle.par2_spec.specs.Prelude.{mul, word};
+ghost use Rattle.par2_transform.specs.Rows.{AreApart};
 
-use crate::buffers::add;
 use par2_gf16::{Factor, WordVector};
 
 /// Where an output lies: the number of its buffer, and its first byte there.
@@ -82,76 +82,19 @@ pub struct Columns<'a> {
     ghost inside: { to ≤ outputs.words },
 }
 
-// A row of words that is added to an output: bytes, or the products of a factor and vectors of words.
-#[derive(Clone, Copy)]
-enum Row<'a> {
-    Bytes(&'a [u8]),
-    Products(&'a Factor, &'a [WordVector]),
-}
-
-impl<'a> Row<'a> {
-    // Adds the words to those of `dst` at the same position, as many as it has.
-    fn add(self, dst: &mut [u8])
-        requires enough { length dst.old ≤ row_size self }
-        requires even { length dst.old % 2 ≡ 0 }
-        ensures { AddsTo (row_word self.entry) dst.old dst.new }
-    {
-        match self {
-            Row::Bytes(src) => add(&src[..dst.len()], dst),
-            Row::Products(factor, vectors) => factor.add_products(vectors, dst),
-        }
-    }
-}
-
-// The place of output t.
-#[inline(always)]
-fn place_of(places: &[Place], t: usize) -> Place
-    requires { t < length places.now }
-    ensures { result ≡ place_at places.now t }
-{
-    places[t]
-}
-
 impl<'a> Columns<'a> {
-    ghost use Rattle.par2_transform.specs.Outputs.{product_in, row_in, Adds, LieIn};
-
-    // Adds the row to these columns of the output at this place. `OneChanged`: no other buffer changes.
-    fn add_to_bytes(&self, row: Row, buffers: &mut [Vec<u8>], place: Place)
-        requires place { place.buffer < length buffers.old }
-        requires row { 2 * self.now.to ≤ 2 * self.now.from + row_size row }
-        requires room { place.at + 2 * self.now.outputs.words
-            ≤ length (list_at (lists_of buffers.old) place.buffer) }
-        ensures changed { OneChanged (lists_of buffers.old) (lists_of buffers.new) place.buffer }
-        ensures added { AddsToPart place.at self.now.outputs.words (row_in self.now row.entry)
-            (list_at (lists_of buffers.old) place.buffer)
-            (list_at (lists_of buffers.new) place.buffer) }
-    {
-        let bytes = buffers[place.buffer].as_mut_slice();
-        row.add(&mut bytes[place.at + 2 * self.from..place.at + 2 * self.to]);
-    }
-
-    // Adds the row to these columns of output `t`. `within t (t + 1)`: no other output changes.
-    fn add_row(&self, row: Row, buffers: &mut [Vec<u8>], t: usize)
-        requires place { t < length self.now.outputs.places.now }
-        requires row { 2 * self.now.to ≤ 2 * self.now.from + row_size row }
-        requires room { LieIn self.now.outputs buffers.old }
-        ensures { Adds self.now.outputs (λ s p. within t (t + 1) s (row_in self.now row.entry p))
-            buffers.old buffers.new }
-    {
-        self.add_to_bytes(row, buffers, place_of(self.outputs.places, t));
-    }
+    ghost use Rattle.par2_transform.specs.Outputs.{AddsRow, LieIn};
 
     /// Adds (exclusive or) word k of the row to column `from + k` of output `t`, for all of the columns.
-    /// `within t (t + 1)`: no other output changes.
     pub fn add(&self, row: &[u8], buffers: &mut [Vec<u8>], t: usize)
         requires place { t < length self.now.outputs.places.now }
         requires row { 2 * self.now.to ≤ 2 * self.now.from + length row.now }
         requires room { LieIn self.now.outputs buffers.old }
-        ensures { Adds self.now.outputs (λ s p. within t (t + 1) s
-            (within self.now.from self.now.to p (word (p - self.now.from) row.now)))
-            buffers.old buffers.new }
+        ensures { AddsRow self.now t (λ c. word c row.now) buffers.old buffers.new }
     {
-        self.add_row(Row::Bytes(row), buffers, t);
+        let Place { buffer, at } = self.outputs.places[t];
+        let bytes = buffers[buffer].as_mut_slice();
+        add(row, &mut bytes[at + 2 * self.from..at + 2 * self.to]);
     }
 
     /// The same with c times the words of vectors.
@@ -159,9 +102,42 @@ impl<'a> Columns<'a> {
         requires place { t < length self.now.outputs.places.now }
         requires row { self.now.to ≤ self.now.from + 32 * length row.now }
         requires room { LieIn self.now.outputs buffers.old }
-        ensures { Adds self.now.outputs (λ s p. within t (t + 1) s (product_in self.now c row.now p))
-            buffers.old buffers.new }
+        ensures { AddsRow self.now t (λ k. mul c (word_of row.now k)) buffers.old buffers.new }
     {
-        self.add_row(Row::Products(&Factor::new(c), row), buffers, t);
+        let Place { buffer, at } = self.outputs.places[t];
+        let output = buffers[buffer].as_mut_slice();
+        Factor::new(c).add_products(row, &mut output[at + 2 * self.from..at + 2 * self.to]);
+    }
+}
+
+/// For the prover: each byte is below 2 ^ 8.
+#[inline(always)]
+pub(crate) fn fit_bytes(bytes: &[u8])
+    ensures { (k : ℕ) → slice_index bytes.now k < 2 ^ 8 }
+{
+    let _ = bytes.len();
+}
+
+/// Copies as many of the bytes as fit, and fills the rest of `to` with zeros.
+#[tactic(auto, using(crate::proofs::Additions::padded_copy, par2_gf16::proofs::Words::zeros_read))]
+pub(crate) fn copy_padded(bytes: &[u8], to: &mut [u8])
+    ensures size { length to.new ≡ length to.old }
+    ensures same { (k : ℕ) → k < length to.old → slice_index to.new k ≡ slice_index bytes.now k }
+{
+    let count = bytes.len().min(to.len());
+    let (front, back) = to.split_at_mut(count);
+    front.copy_from_slice(&bytes[..count]);
+    back.fill(0);
+}
+
+/// Adds to each word of `dst` the word of `src` at the same place. The sum of two elements is their exclusive or.
+pub(crate) fn add(src: &[u8], dst: &mut [u8])
+    requires { length dst.old ≤ length src.now }
+    ensures { AddsTo (λ p. word p src.now) dst.old dst.new }
+{
+    fit_bytes(src);
+    fit_bytes(dst);
+    for k in 0..dst.len() {
+        dst[k] ^= src[k];
     }
 }

@@ -1,20 +1,19 @@
 //! Recovery slices, added to outputs inside buffers or to whole buffers. The outputs are computed in groups as large as
-//! memory allows, each by one transform (`add_group`) over all columns, some at a time (`add_words`).
-#![tactic(auto, using(crate::proofs::GroupLaws::steps))]
+//! memory allows, each by one transform (`add_group`) over all columns, some at a time.
+//! The theorems behind the transform are contracts of functions that do nothing.
+#![tactic(auto, using(crate::proofs::Additions::group_steps, crate::proofs::Chirps::law_steps))]
 
-ghost use Rattle.std.specs.Prelude.{◌+◌, ◌*◌, ◌^◌, ◌≤◌, length, IfOk};
-ghost use Rattle.par2_spec.specs.Sums.{lists_of};
-ghost use Rattle.par2_transform.specs.Adding.{AddsToEach, AreWholeBuffers, HaveWords};
-ghost use Rattle.par2_transform.specs.Blocks.{CoverOutputs, cut_of};
-ghost use Rattle.par2_transform.specs.Columns.{byte_lists, recovered};
-ghost use Rattle.par2_transform.specs.Outputs.{AddsSlices, LieIn};
+ghost use Rattle.std.specs.Prelude.{◌+◌, ◌*◌, ◌^◌, ◌≤◌, length, IfOk, ◌≡◌, ◌<◌, ℕ, ◌/◌, bit_xor};
+ghost use Rattle.par2_spec.specs.Prelude.{lists_of, field_sum, mul, pow, coefficient};
+ghost use Rattle.par2_transform.specs.Rows.{AddsToEach, AreWholeBuffers, HaveWords};
+ghost use Rattle.par2_transform.specs.Outputs.{CoverOutputs, cut_of, AddsSlices, LieIn};
+ghost use Rattle.par2_transform.specs.Chirps.{byte_lists, recovered, chirp, chirp_inverse, AreWordsOfFirst, Cut, Reaches, HasWeights, from_gathered, gathered};
+ghost use Rattle.par2_transform.specs.Polynomials.{point, vanishing, sum_ahead};
 
-use crate::blocks::Block;
-use crate::exponents::Slices;
+use crate::exponents::{Plan, outputs_at_once};
 use crate::outputs::{Place, Places};
-use crate::plan::{Plan, outputs_at_once};
 use crate::rows::Rows;
-use crate::windows::Windows;
+use crate::windows::{Block, Windows};
 use par2_gf16::Gf;
 use std::alloc::{AllocError, Global};
 
@@ -37,33 +36,8 @@ fn blocks_of(
     Ok(blocks)
 }
 
-impl<'a> Windows<'a> {
-    // Adds to output t the recovery slice of exponent `self.first + t`, some columns at a time.
-    #[tactic(auto, using(crate::proofs::ColumnLaws::steps))]
-    fn add_words(
-        &self,
-        alloc: Global,
-        buffers: &mut [Vec<u8>],
-        outputs: &Places,
-    ) -> Result<(), AllocError>
-        requires exponents { self.now.first + length outputs.now.places.now ≤ 2 ^ 32 }
-        requires room { LieIn outputs.now buffers.old }
-        ensures { IfOk result (λ _.
-            AddsSlices self.now.slices self.now.first outputs.now buffers.old buffers.new) }
-    {
-        let plan = self.plan;
-        let mut rows = Rows::new(alloc, plan.levels, plan.columns)?;
-        let mut blocks = blocks_of(alloc, self.gf, &plan, self.first, outputs.len())?;
-        for k in 0..outputs.words.div_ceil(plan.columns) {
-            let columns = outputs.columns(k, plan.columns);
-            self.add_classes(&columns, &mut rows, blocks.as_mut_slice(), buffers);
-        }
-        Ok(())
-    }
-}
-
 /// The places of `count` outputs that are a whole buffer each: output t is buffer t.
-#[tactic(auto, using(crate::proofs::WholeBuffers::whole_tables))]
+#[tactic(auto, using(crate::proofs::Additions::whole_tables))]
 pub fn whole_buffers(alloc: Global, count: usize) -> Result<Vec<Place>, AllocError>
     ensures { IfOk result (λ places. AreWholeBuffers count places.items) }
 {
@@ -83,7 +57,9 @@ pub struct Transform<'a> {
 }
 
 impl<'a> Transform<'a> {
-    // Adds to output t the recovery slice of exponent `first + t`, for all outputs in one transform.
+    // Adds to output t the recovery slice of exponent `first + t`, for all outputs in one transform, some columns at a
+    // time.
+    #[tactic(auto, using(crate::proofs::Additions::column_steps))]
     fn add_group(
         &self,
         alloc: Global,
@@ -93,12 +69,18 @@ impl<'a> Transform<'a> {
     ) -> Result<(), AllocError>
         requires exponents { first + length outputs.now.places.now ≤ 2 ^ 32 }
         requires room { LieIn outputs.now buffers.old }
-        ensures { IfOk result (λ _.
-            AddsSlices (byte_lists self.now.slices.now) first outputs.now buffers.old buffers.new) }
+        ensures { IfOk result (λ _. AddsSlices self.now.slices.now first outputs.now buffers.old buffers.new) }
     {
         let Transform { gf, slices, room } = *self;
         let windows = Windows::new(alloc, gf, slices, first, outputs, room)?;
-        windows.add_words(alloc, buffers, outputs)
+        let plan = windows.plan;
+        let mut rows = Rows::new(alloc, plan.levels, plan.columns)?;
+        let mut blocks = blocks_of(alloc, gf, &plan, first, outputs.len())?;
+        for k in 0..outputs.words.div_ceil(plan.columns) {
+            let columns = outputs.columns(k, plan.columns);
+            windows.add_classes(&columns, &mut rows, blocks.as_mut_slice(), buffers);
+        }
+        Ok(())
     }
 
     /// Adds to output t the recovery slice of exponent `first + t`.
@@ -111,8 +93,7 @@ impl<'a> Transform<'a> {
     ) -> Result<(), AllocError>
         requires exponents { first + length outputs.now.places.now ≤ 2 ^ 32 }
         requires room { LieIn outputs.now buffers.old }
-        ensures { IfOk result (λ _.
-            AddsSlices (byte_lists self.now.slices.now) first outputs.now buffers.old buffers.new) }
+        ensures { IfOk result (λ _. AddsSlices self.now.slices.now first outputs.now buffers.old buffers.new) }
     {
         let at_once = outputs_at_once(self.room);
         let count = outputs.len();
@@ -145,3 +126,28 @@ impl<'a> Transform<'a> {
         self.add_recovery_slices_at(alloc, first, buffers, &outputs)
     }
 }
+
+/// Subspace polynomials (Cantor 1989): each is constant on every coset of its subspace, and is a sum of powers
+/// `x ^ (2 ^ j)`.
+pub fn subspaces_vanish()
+    ensures on_cosets { (i u : ℕ) → u < 65536 → vanishing i (point u) ≡ point (u / 2 ^ i) }
+    ensures leading { (i x : ℕ) → x < 65536 → pow x (2 ^ i) ≡ bit_xor (vanishing i x) (sum_ahead i (pow x) 0) }
+{}
+
+/// A power of 2 whose exponent is a product is itself a product of three chirps (Bluestein 1970).
+pub fn products_by_chirps()
+    ensures inverse { (d m : ℕ) → mul (chirp d m) (chirp_inverse d m) ≡ 1 }
+    ensures product { (d m e : ℕ) → pow 2 (d * (m * e))
+        ≡ mul (chirp_inverse d e) (mul (chirp_inverse d m) (chirp d (m + e))) }
+{}
+
+/// A word of a recovery slice, as a sum over residue classes of the exponents of the constants, windows in each class,
+/// and the points of a subspace. Any cut is correct that reaches all slices, has its weights, and whose windows fit the
+/// points.
+pub fn sums_by_windows()
+    ensures { (n e t : ℕ) (words : ℕ → ℕ) (cut : Cut) (weights : ℕ → ℕ → ℕ)
+        → AreWordsOfFirst n words → Reaches n cut
+        → HasWeights cut e weights → cut.window + t ≤ 2 ^ cut.levels
+        → field_sum n (λ i. mul (coefficient (e + t) i) (words i))
+        ≡ field_sum cut.classes (λ r. from_gathered cut (gathered cut weights words r) e t r) }
+{}

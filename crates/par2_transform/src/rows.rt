@@ -1,21 +1,46 @@
 //! The rows of words that a transform works on. Row u has the values of point u (or coefficient u), and
 //! each column of words is transformed by itself.
-#![tactic(auto, using(crate::proofs::GridLaws::steps))]
+#![tactic(auto, using(crate::proofs::GridLaws::grid_steps, crate::proofs::GridLaws::vector_steps))]
 
 ghost use Rattle.std.specs.Prelude.{◌≡◌, ℕ, ◌+◌, ◌*◌, ◌%◌, ◌^◌, ◌<◌, ◌≤◌, length, IfOk};
-ghost use Rattle.par2_gf16.specs.Vectors.{word_of};
-ghost use Rattle.par2_spec.specs.Field.{mul};
-ghost use Rattle.par2_spec.specs.Slices.{word};
-ghost use Rattle.par2_spec.specs.Sums.{GivesElements};
-ghost use Rattle.par2_transform.specs.Adding.{times};
-ghost use Rattle.par2_transform.specs.Grids.{column, AreCopied, AreTwoRuns, EachColumn, HasSize, IsAdded};
-ghost use Rattle.par2_transform.specs.LevelSteps.{RunAddedBy, IsButterfly};
+ghost use Rattle.par2_gf16.specs.Words.{word_in, word_of};
+ghost use Rattle.par2_spec.specs.Prelude.{mul, word, GivesElements};
+ghost use Rattle.par2_transform.specs.Rows.{times, column, AreCopied, AreRewritten, AreTwoRuns, AddsToRun, CopiesVectors, EachColumn, HasSize, IsAdded, RunAddedBy, IsButterfly};
 
-use crate::buffers::copy_padded;
-use crate::vectors::{self, Multiplier};
+use crate::outputs::copy_padded;
 use par2_gf16::{Factor, WordVector};
 use std::alloc::{AllocError, Global};
 use std::marker::Model;
+
+// The words, multiplied by the factor if there is one.
+#[inline(always)]
+fn times(by: Option<&Factor>, words: WordVector) -> WordVector
+    ensures { (j : ℕ) → j < 32 → word_in result j ≡ times by.entry (word_in words j) }
+{
+    match by {
+        None => words,
+        Some(factor) => factor.times(words),
+    }
+}
+
+// Copies the first `count` vectors of `src` to those of `dst`.
+fn copy(src: &[WordVector], dst: &mut [WordVector], count: usize)
+    requires source { count ≤ length src.now }
+    requires room { count ≤ length dst.old }
+    ensures { CopiesVectors count src.now dst.old dst.new }
+{
+    dst[..count].copy_from_slice(&src[..count]);
+}
+
+// Adds the words to vector n.
+#[inline(always)]
+fn add_at(vectors: &mut [WordVector], n: usize, words: WordVector)
+    requires { n < length vectors.old }
+    ensures kept { AreRewritten vectors.old vectors.new }
+    ensures added { AddsToRun (32 * n) 32 (word_in words) (word_of vectors.old) (word_of vectors.new) }
+{
+    vectors[n] = vectors[n].plus(words);
+}
 
 /// `2 ^ levels` rows of words, one after the other, each of whole vectors.
 #[derive(Drop)]
@@ -31,7 +56,7 @@ pub(crate) struct Rows {
 
 impl Model for Rows {
     ghost use Rattle.std.specs.Prelude.{◌≡◌, ◌*◌, length};
-    ghost use Rattle.par2_transform.specs.Grids.{Grid, AreRows};
+    ghost use Rattle.par2_transform.specs.Rows.{Grid, AreRows};
 
     ghost Value = { Grid };
 
@@ -80,7 +105,7 @@ impl Rows {
         ensures words { self.new.words ≡ self.old.words }
         ensures zero { (c u : ℕ) → column self.new c u ≡ 0 }
     {
-        vectors::clear(self.vectors.as_mut_slice());
+        self.vectors.as_mut_slice().fill(WordVector::zeros());
     }
 
     // The number of vectors before row u.
@@ -107,7 +132,7 @@ impl Rows {
         ensures { AreCopied count other.now self.old self.new }
     {
         let count = self.place(count);
-        vectors::copy(&other.vectors, self.vectors.as_mut_slice(), count);
+        copy(&other.vectors, self.vectors.as_mut_slice(), count);
     }
 
     /// Adds the factor times word c of the bytes to word c of row `to`. Bytes shorter than a row are padded with zeros.
@@ -117,8 +142,12 @@ impl Rows {
     {
         let start = self.place(to);
         copy_padded(bytes, self.source.as_mut_slice());
+        let source = self.source.as_slice();
         let vectors = self.vectors.as_mut_slice();
-        vectors::add_bytes(factor, &self.source, vectors, start, self.width);
+        for k in 0..self.width {
+            let words = WordVector::from_bytes(source, 64 * k);
+            add_at(vectors, start + k, factor.times(words));
+        }
     }
 
     /// Adds the factor times row `from` of the other rows to row `to`.
@@ -129,16 +158,25 @@ impl Rows {
         ensures { IsAdded self.old self.new to (λ c. mul factor.now (column other.now c from)) }
     {
         let start = self.place(to);
-        vectors::add_products(factor, other.row(from), self.vectors.as_mut_slice(), start);
+        let row = other.row(from);
+        let vectors = self.vectors.as_mut_slice();
+        for k in 0..row.len() {
+            add_at(vectors, start + k, factor.times(row[k]));
+        }
     }
 
-    /// Adds the `count` rows from row `from` on, multiplied, to those from row `to` on. They don't overlap.
-    pub(crate) fn add_rows(&mut self, by: Multiplier, from: usize, to: usize, count: usize)
+    /// Adds the `count` rows from row `from` on, multiplied if there is a factor, to those from row `to` on. They don't
+    /// overlap.
+    pub(crate) fn add_rows(&mut self, by: Option<&Factor>, from: usize, to: usize, count: usize)
         requires { AreTwoRuns (2 ^ self.old.levels) from to count }
         ensures { EachColumn (RunAddedBy (times by.entry) from to count) self.old self.new }
     {
         let (from, to, count) = (self.place(from), self.place(to), self.place(count));
-        vectors::add_within(by, self.vectors.as_mut_slice(), from, to, count);
+        let vectors = self.vectors.as_mut_slice();
+        for k in 0..count {
+            let words = vectors[from + k];
+            add_at(vectors, to + k, times(by, words));
+        }
     }
 
     /// The butterfly: adds the factor times the `count` rows from row `high` on to those from row `low` on, and then these
@@ -149,7 +187,13 @@ impl Rows {
         ensures { EachColumn (IsButterfly (mul factor.now) low high count) self.old self.new }
     {
         let (low, high, count) = (self.place(low), self.place(high), self.place(count));
-        vectors::butterfly(factor, self.vectors.as_mut_slice(), low, high, count);
+        let vectors = self.vectors.as_mut_slice();
+        for k in 0..count {
+            let words = vectors[high + k];
+            add_at(vectors, low + k, factor.times(words));
+            let sums = vectors[low + k];
+            add_at(vectors, high + k, sums);
+        }
     }
 
     /// For the prover: each word is below 2 ^ 16.

@@ -1,4 +1,4 @@
-use Rattle.par2_gf16.proofs.BlockLaws.{vector_added}
+use Rattle.par2_gf16.proofs.Words.{vector_added}
 use Rattle.par2_gf16.proofs.lanes.add_vector.Goals as goal
 
 pub returns : goal.returns

@@ -1,4 +1,4 @@
-use Rattle.par2_gf16.proofs.BlockLaws.{interleaving}
+use Rattle.par2_gf16.proofs.Words.{interleaving}
 use Rattle.par2_gf16.proofs.lanes.interleaved.Goals as goal
 
 pub returns : goal.returns

@@ -1,4 +1,4 @@
-use Rattle.par2_gf16.proofs.BlockLaws.{places_ok, looked_up}
+use Rattle.par2_gf16.proofs.Words.{places_ok, looked_up}
 use Rattle.par2_gf16.proofs.lanes.looked_up.Goals as goal
 
 pub swizzle : goal.swizzle

@@ -1,4 +1,4 @@
-use Rattle.par2_gf16.proofs.LaneLaws.{select_lanes}
+use Rattle.par2_gf16.proofs.Words.{select_lanes}
 use Rattle.par2_gf16.proofs.lanes.select_add.Goals as goal
 
 pub returns : goal.returns

@@ -1,4 +1,4 @@
-use Rattle.par2_gf16.proofs.BlockLaws.{words_split}
+use Rattle.par2_gf16.proofs.Words.{words_split}
 use Rattle.par2_gf16.proofs.lanes.words_at.Goals as goal
 
 pub returns : goal.returns

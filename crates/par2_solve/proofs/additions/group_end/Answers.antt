@@ -3,7 +3,7 @@ use Rattle.par2_solve.proofs.additions.group_end.Goals as goal
 
 pub returns-then-are_together-clause-room : goal.returns-then-are_together-clause-room
 returns-then-are_together-clause-room c =
-    inl ((c.are_together.ensures.slices c.if-are_together.true, c.are_together.ensures.count c.if-are_together.true), c.run_end-end.ensures.run)
+    inl c.run_end-end.ensures.run
 
 pub returns-then-are_together-2-clause-room : goal.returns-then-are_together-2-clause-room
 returns-then-are_together-2-clause-room c = inr (omega arith)

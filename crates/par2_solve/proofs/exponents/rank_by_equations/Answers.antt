@@ -1,6 +1,6 @@
-use Rattle.par2_solve.proofs.Common.{rules}
-use Rattle.par2_solve.proofs.Windows.{full_rank}
+use Rattle.par2_solve.proofs.Common.{rules, sym}
+use Rattle.par2_spec.proofs.FullRank.{full-iff}
 use Rattle.par2_solve.proofs.exponents.rank_by_equations.Goals as goal
 
 pub returns-then-branch : goal.returns-then-branch
-returns-then-branch c = full_rank c.args.lost.now c.args.exponents.now c.requires (c.in_ok-determine.ensures (search rules))
+returns-then-branch c = sym ((full-iff c.args.lost.now c.args.exponents.now c.requires).1 (c.in_ok-determine.ensures (search rules)))

@@ -1,5 +1,5 @@
 use Rattle.par2_solve.proofs.Common.{rules, ap, List, ℕ, ◌≡◌, ◌+◌, ◌≤◌, ◌∙◌, arith, sym, subst, length, eqb-true, IsTrue, IsRepairable}
-use Rattle.par2_solve.specs.Inverses.{AreHoleEquations, holes, locator, span}
+use Rattle.par2_solve.specs.BufferContents.{AreHoleEquations, holes, locator, span}
 use Rattle.par2_solve.proofs.Windows.{holes_determine, more_determine, only_zero_fits}
 use Rattle.par2_solve.proofs.holes.determine.Goals as goal
 
@@ -15,4 +15,4 @@ returns-in-Some-2 c = λ yes.
     let are : AreHoleEquations (locator lost) (holes es) 0 n c.in-Some-2.system = rw (c.in-Some-2.is, c.deref.ensures.value, c.in_ok-locator.ensures, c.deref-2.ensures.value, c.in_ok-places.ensures) at c.in_ok-system.ensures in
     more_determine lost c.args.exponents.now.numbers.now (length lost)
     (subst (IsRepairable lost) c.in-Some.ensures.first
-    (holes_determine lost es n (c.are_slices.ensures slices) c.in-Some.first.rise (omega (arith, c.in-Some.ensures.count, c.in-Some.ensures.near)) fit (only_zero_fits (locator lost) (holes es) 0 n c.in-Some-2.system are (c.rank.ensures.full.0 (full ∙ sym are.columns)))))
+    (holes_determine lost es n (c.are_slices.ensures slices) c.in-Some.first.rise c.in-Some.first.some fit (only_zero_fits (locator lost) (holes es) 0 n c.in-Some-2.system are (c.rank.ensures.full.0 (full ∙ sym are.columns)))))

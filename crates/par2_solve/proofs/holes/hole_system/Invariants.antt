@@ -1,4 +1,4 @@
-use Rattle.par2_solve.specs.Inverses.{AreHoleEquations}
+use Rattle.par2_solve.specs.BufferContents.{AreHoleEquations}
 use Rattle.par2_solve.proofs.holes.hole_system.Given as goal
 
 abbrev pub invariant-loop-u : goal.invariant-loop-u

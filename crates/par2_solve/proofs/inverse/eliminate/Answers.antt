@@ -1,7 +1,6 @@
 use Rattle.par2_solve.proofs.Common.{◌≡◌, ◌+◌, ◌∙◌, ℕ, List, Vec, Global, ap, sym, subst, arith, length, Ok, Kept, Dependent, CutDown, IsIndependent, IsDependent, IsUnit}
 use Rattle.par2_matrix.specs.Systems as systems
-use Rattle.par2_solve.proofs.Ranks.{full_follows, dependent_is_not_kept}
-use Rattle.par2_solve.proofs.Standing.{Standing, stands_more, stands_still, eliminated}
+use Rattle.par2_solve.proofs.Ranks.{full_follows, dependent_is_not_kept, Standing, stands_more, stands_still, eliminated}
 use Rattle.par2_solve.proofs.inverse.eliminate.Goals as goal
 
 pub loop-i-preserved-then-rank-lost : goal.loop-i-preserved-then-rank-lost

@@ -1,4 +1,4 @@
-use Rattle.par2_solve.proofs.Standing.{Standing}
+use Rattle.par2_solve.proofs.Ranks.{Standing}
 use Rattle.par2_solve.proofs.inverse.eliminate.Given as goal
 
 abbrev pub invariant-loop-i : goal.invariant-loop-i

@@ -1,22 +1,31 @@
-use Rattle.par2_solve.proofs.Common.{◌∙◌, sym, length}
-use Rattle.par2_solve.specs.Inverses.{InvertsFirst}
-use Rattle.par2_solve.proofs.Beginnings.{kept_first}
-use Rattle.par2_solve.proofs.Windows.{more_determine}
+use Rattle.par2_solve.proofs.Common.{◌∙◌, refl, sym, length, lists_of, length-lists_of}
+use Rattle.par2_solve.specs.BufferContents.{InvertsFirst}
+use Rattle.par2_solve.proofs.Inverting.{are_inverse}
+use Rattle.par2_solve.proofs.Windows.{kept_first, more_determine}
 use Rattle.par2_solve.proofs.inverse.invert.Goals.{In-Some}
 use Rattle.par2_solve.proofs.inverse.invert.Goals as goal
 
 first : (c : In-Some) → InvertsFirst c.args.lost.now.numbers.now c.args.exponents.now.numbers.now c.in-Some.inverse
 first c = rw c.in-Some.is at c.in_ok-inverse.ensures
 
-pub returns-clause-kept : goal.returns-clause-kept
-returns-clause-kept c =
-    let reported = first (goal.at.returns-clause-kept c).In-Some in
-    c.in_ok-kept.ensures.items ∙ sym (kept_first c.args.lost.now.numbers.now c.args.exponents.now.numbers.now c.args.exponents.now.rise reported.within reported.enough)
+pub returns-in-Some-clause-found : goal.returns-in-Some-clause-found
+returns-in-Some-clause-found c =
+    let reported = first (goal.at.returns-in-Some-clause-found c).In-Some in
+    record {
+      kept = c.in_ok-kept.ensures.items ∙ sym (kept_first c.args.lost.now.numbers.now c.args.exponents.now.numbers.now c.args.exponents.now.rise reported.within reported.enough);
+      inverse = rw c.in_ok-kept.ensures.items reported.inverts;
+    }
 
-pub returns-clause-inverse : goal.returns-clause-inverse
-returns-clause-inverse c = rw c.in_ok-kept.ensures.items (first (goal.at.returns-clause-inverse c).In-Some).inverts
-
-pub returns-clause-enough : goal.returns-clause-enough
-returns-clause-enough c = λ _.
-    let reported = first (goal.at.returns-clause-enough c).In-Some in
+pub returns-in-Some-clause-enough : goal.returns-in-Some-clause-enough
+returns-in-Some-clause-enough c = λ _.
+    let reported = first (goal.at.returns-in-Some-clause-enough c).In-Some in
     more_determine c.args.lost.now.numbers.now c.args.exponents.now.numbers.now (length c.args.lost.now.numbers.now) reported.enough
+
+pub returns-in_ok-rows_of-in-Ok-clause-found : goal.returns-in_ok-rows_of-in-Ok-clause-found
+returns-in_ok-rows_of-in-Ok-clause-found c =
+    let buffers = c.in-Ok.buffers.items in
+    record {
+      kept = c.in_ok-chosen.ensures.are_kept;
+      inverse = are_inverse c.args.lost.now.numbers.now c.args.exponents.now.numbers.now _ _ (lists_of buffers) (lists_of c.in_ok-rows_of-in-Ok.field-0.items) c.in_ok-chosen.ensures c.in-Ok.ensures.ok (c.in-Ok.ensures.when.0 refl)
+          (rw (c.deref.ensures.value, ← length-lists_of buffers) at c.in_ok-rows_of-in-Ok.ensures);
+    }

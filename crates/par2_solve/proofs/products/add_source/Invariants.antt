@@ -1,5 +1,6 @@
-use Rattle.par2_solve.proofs.Common.{get_or, list_at, lists_of, AddsSource}
+use Rattle.par2_solve.proofs.Common.{◌-◌, get_or, list_at, lists_of, AddsSource}
+use Rattle.par2_gf16.specs.Words.{word_of}
 use Rattle.par2_solve.proofs.products.add_source.Given as goal
 
 abbrev pub invariant-loop-r : goal.invariant-loop-r
-invariant-loop-r l = AddsSource (λ x. get_or (list_at (lists_of l.factors) x) l.k 0) l.source.bytes (lists_of l.initial.targets) (lists_of l.targets) l.source.from l.source.to l.r
+invariant-loop-r l = AddsSource (λ x. get_or (list_at (lists_of l.factors) x) l.k 0) (λ p. word_of l.source (p - l.columns.from)) (lists_of l.initial.targets) (lists_of l.targets) l.columns.from l.columns.to l.r

@@ -1,5 +1,5 @@
-use Rattle.par2_solve.proofs.Common.{ℕ, ◌<◌, get_or, list_at, buffers_of}
+use Rattle.par2_solve.proofs.Common.{ℕ, ◌<◌, get_or, list_at, byte_lists}
 use Rattle.par2_solve.proofs.products.buffers_fit.Given as goal
 
 abbrev pub invariant-loop-i : goal.invariant-loop-i
-invariant-loop-i l = (r k : ℕ) → r < l.i → get_or (list_at (buffers_of l.buffers) r) k 0 < 256
+invariant-loop-i l = (r k : ℕ) → r < l.i → get_or (list_at (byte_lists l.buffers) r) k 0 < 256

@@ -1,12 +1,9 @@
-use Rattle.par2_solve.proofs.Common.{rules, ℕ, zero, List, [], ◌∷◌, Bool, Bor, ◌≡◌, ◌∙◌, ◌||◌, eqb, refl, ap, ap₂, inl, inr, sym, cases_eq, eq-eqb, ne_eqb, list_any, filter, map, map-map, filter-map, YieldsList-from_map_by, YieldsList-from_slice, map_from_collect, with_exponents, recovered_of}
+use Rattle.par2_solve.proofs.Common.{by_either, rules, ℕ, List, [], ◌∷◌, Bor, ◌≡◌, ◌∙◌, ◌||◌, eqb, refl, ap₂, inl, inr, sym, cases_eq, eq-eqb, ne_eqb, list_any, filter, map-map, filter-map, YieldsList-from_map_by, YieldsList-from_slice, map_from_collect}
 use Rattle.std.proofs.lemmas.Iterator.Consumers.{YieldsList-at, YieldsList-from_filter}
 use Rattle.par2_solve.proofs.rebuild_slices.bytes_of.Goals as goal
 
 flipped : (a b : ℕ) → eqb a b ≡ eqb b a
-flipped a b = elim (cases_eq a b) [
-  | inl same ↦ eq-eqb a b same ∙ sym (eq-eqb b a (sym same))
-  | inr other ↦ ne_eqb a b other ∙ sym (ne_eqb b a (λ e. other (sym e)))
-]
+flipped a b = by_either (cases_eq a b) (λ same. eq-eqb a b same ∙ sym (eq-eqb b a (sym same))) (λ other. ne_eqb a b other ∙ sym (ne_eqb b a (λ e. other (sym e))))
 
 any_flipped : (a : ℕ) (es : List ℕ) → list_any (λ e. eqb a e) es ≡ list_any (λ e. eqb e a) es
 any_flipped a [] = refl

@@ -1,4 +1,4 @@
-use Rattle.par2_solve.proofs.Common.{◌≡◌, ◌<◌, ℕ, zero, suc, List, [], ◌∷◌, Bor, length, get_or, map, refl, sym, subst, inl, inr, cases_lt, arith, list_at, recovered_of}
+use Rattle.par2_solve.proofs.Common.{by_either, ◌≡◌, ◌<◌, ℕ, zero, suc, List, [], ◌∷◌, Bor, length, get_or, map, refl, sym, subst, inl, inr, cases_lt, arith, list_at, recovered_of}
 use Rattle.par2_solve.proofs.rebuild_slices.fit_recovery.Goals as goal
 
 -- the bytes at an index are those of the recovery slice there
@@ -8,10 +8,9 @@ given_at (r ∷ recovery) zero d low = refl
 given_at (r ∷ recovery) (suc k) d low = given_at recovery k d (omega arith)
 
 pub loop-i-preserved : goal.loop-i-preserved
-loop-i-preserved c = λ r k low. elim (cases_lt r c.loop-i.i) [
-  | inl before ↦ c.loop-i.invariant r k before
-  | inr past ↦
-      let same : r ≡ c.loop-i.i = omega (arith, low, past) in
-      subst (λ m. get_or (list_at (map (λ e. e.1) (recovered_of c.args.recovery.now)) m) k 0 < 256) (sym same)
-      (subst (λ (xs : List ℕ). get_or xs k 0 < 256) (given_at c.args.recovery.now c.loop-i.i _ c.loop-i-test.true) (c.fit_bytes.ensures k))
-]
+loop-i-preserved c = λ r k low. by_either (cases_lt r c.loop-i.i)
+    (λ before. c.loop-i.invariant r k before)
+    (λ past.
+    let same : r ≡ c.loop-i.i = omega (arith, low, past) in
+    subst (λ m. get_or (list_at (map (λ e. e.1) (recovered_of c.args.recovery.now)) m) k 0 < 256) (sym same)
+    (subst (λ (xs : List ℕ). get_or xs k 0 < 256) (given_at c.args.recovery.now c.loop-i.i _ c.loop-i-test.true) (c.fit_bytes.ensures k)))

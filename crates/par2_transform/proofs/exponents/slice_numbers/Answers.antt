@@ -1,6 +1,4 @@
-use mir.Val.{bool_byte}
-use Rattle.par2_transform.proofs.Common.{if◌then◌else◌, arith, ◌≡◌, ◌+◌, ◌∙◌, ℕ, Bool, true, false, refl, ap, sym, subst, Vec, Global, is_coprime}
-use Rattle.par2_transform.proofs.NumberLaws.{AreFound, bit_of, none_found, one_found, enough_found, all_found}
+use Rattle.par2_transform.proofs.Names.{bool_byte, if◌then◌else◌, arith, ◌≡◌, ◌+◌, ◌∙◌, ℕ, Bool, true, false, refl, ap, sym, subst, Vec, Global, is_coprime, AreFound, bit_of, none_found, one_found, enough_found, all_found}
 use Rattle.par2_transform.proofs.exponents.slice_numbers.Goals.{then-found-n+in_ok-push, else-found-n}
 use Rattle.par2_transform.proofs.exponents.slice_numbers.Goals as goal
 

@@ -1,4 +1,4 @@
-use Rattle.par2_transform.proofs.NumberLaws.{AreFound}
+use Rattle.par2_transform.proofs.Chirps.{AreFound}
 use Rattle.par2_transform.proofs.exponents.slice_numbers.Given as goal
 
 abbrev pub invariant-loop-exponent : goal.invariant-loop-exponent

@@ -1,5 +1,4 @@
-use Rattle.par2_transform.proofs.Common.{◌≡◌, ◌+◌, ◌*◌, ◌^◌, ◌<◌, ◌≤◌, ◌∙◌, refl, sym, subst, arith, length, pow_mono, div_ceil_times, cut_of}
-use Rattle.par2_transform.proofs.BlockLaws.{BlocksMade, next_block}
+use Rattle.par2_transform.proofs.Names.{◌≡◌, ◌+◌, ◌*◌, ◌^◌, ◌<◌, ◌≤◌, ◌∙◌, refl, sym, subst, arith, length, pow_mono, div_ceil_times, cut_of, BlocksMade, next_block}
 use Rattle.par2_transform.proofs.recovery.blocks_of.Goals as goal
 
 pub loop-j-preserved : goal.loop-j-preserved

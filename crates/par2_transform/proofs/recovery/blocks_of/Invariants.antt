@@ -1,5 +1,4 @@
-use Rattle.par2_transform.proofs.Common.{cut_of}
-use Rattle.par2_transform.proofs.BlockLaws.{BlocksMade}
+use Rattle.par2_transform.proofs.Names.{cut_of, BlocksMade}
 use Rattle.par2_transform.proofs.recovery.blocks_of.Given as goal
 
 abbrev pub invariant-loop-j : goal.invariant-loop-j

@@ -1,4 +1,4 @@
-use Rattle.par2_gf16.proofs.NibbleLaws.{twice_sixteen, thrice_sixteen}
+use Rattle.par2_gf16.proofs.Words.{twice_sixteen, thrice_sixteen}
 use Rattle.par2_gf16.proofs.factor.Factor.new.Goals as goal
 
 pub invariant_of-result : goal.invariant_of-result

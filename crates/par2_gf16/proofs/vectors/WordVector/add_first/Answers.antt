@@ -1,17 +1,19 @@
-use Rattle.std.proofs.Common.{rules}
-use Rattle.par2_gf16.proofs.Common.{ℕ, ◌-◌, ◌+◌, ◌<◌, ◌≡◌, ap, ◌∙◌, arith, word_in}
-use Rattle.par2_gf16.proofs.Parts.{adds_after, added_to_zeros, zeros_read}
-use Rattle.par2_gf16.proofs.WordLaws.{word_added}
+use Rattle.par2_gf16.proofs.Common.{◌+◌, ◌-◌, ◌*◌, ◌<◌, ◌≡◌, length, bit_xor, ap, ap₂, ◌∙◌, arith, word_in}
+use Rattle.par2_gf16.proofs.Words.{added_to_zeros, end_added, words_kept, zeros_read}
 use Rattle.par2_gf16.proofs.vectors.WordVector.add_first.Goals as goal
 
-pub loop-i-preserved : goal.loop-i-preserved
-loop-i-preserved c =
-    let l = c.loop-i in
+pub returns : goal.returns
+returns c =
     let n = c.args.n in
-    let other : ℕ → ℕ = λ i. word_in c.args.self (i - n) in
-    let low : l.i - n < 32 = search rules in
-    let same : l.i - n - 0 ≡ l.i - n = omega arith in
-    adds_after other c.args.dst.now l.dst c.add_at.new.dst n l.i (l.i + 1) (omega arith) (omega arith) l.invariant
-    (rw c.add_at.ensures.written
-    (word_added other l.dst l.i c.word_at.result (search rules) c.add_at.ensures.bytes c.word_at.type_inv
-    (c.word_at.ensures ∙ added_to_zeros (λ i. word_in c.args.self (i - 0)) _ c.add_to.new.dst 32 (l.i - n) (zeros_read 64) (omega arith) low c.add_to.ensures ∙ ap (word_in c.args.self) same)))
+    let end = c.split_at_mut-end.result.1.now in
+    let size : length c.copy_from_slice.new.self + 2 * n ≡ length c.args.dst.now = ap (λ m. m + 2 * n) c.copy_from_slice.ensures.len ∙ c.split_at_mut-end.ensures.back_len in
+    rw c.split_at_mut-end.ensures.front
+    (end_added (λ i. word_in c.args.self (i - n)) c.args.dst.now c.copy_from_slice.new.self n c.requires.some c.requires.few size
+    (λ j room.
+    let low : j < 32 = omega (arith, c.requires.few) in
+    let same : j - 0 ≡ j = omega arith in
+    let back : j ≡ n + j - n = omega arith in
+    words_kept c.add_all.new.dst c.copy_from_slice.new.self (length end) j c.copy_from_slice.ensures.after (omega (arith, c.split_at_mut-end.ensures.back_len))
+    ∙ added_to_zeros (λ i. word_in c.plus.result (i - 0)) _ c.add_all.new.dst 32 j (zeros_read 64) (omega arith) low c.add_all.ensures
+    ∙ ap (word_in c.plus.result) same ∙ c.plus.ensures.sums j low
+    ∙ ap₂ bit_xor (c.padded.ensures j low) (ap (word_in c.args.self) back)))

@@ -1,5 +1,5 @@
 use Rattle.par2_gf16.proofs.Common.{drop}
-use Rattle.par2_gf16.proofs.BlockLaws.{lane_word}
+use Rattle.par2_gf16.proofs.Words.{lane_word}
 use Rattle.par2_gf16.proofs.vectors.WordVector.from_bytes.Goals as goal
 
 pub returns : goal.returns

@@ -1,5 +1,5 @@
 use Rattle.std.proofs.Common.{rules}
-use Rattle.par2_gf16.proofs.BlockLaws.{sum_in}
+use Rattle.par2_gf16.proofs.Words.{sum_in}
 use Rattle.par2_gf16.proofs.vectors.WordVector.plus.Goals as goal
 
 pub returns-clause-sums : goal.returns-clause-sums

@@ -1,5 +1,5 @@
 use Rattle.par2_matrix.proofs.Common.{◌∙◌, sym, subst, IsReduced, echelon, lists_of, length-lists_of}
-use Rattle.par2_matrix.proofs.Standing.{none_reduced}
+use Rattle.par2_matrix.proofs.Systems.{none_reduced}
 use Rattle.par2_matrix.proofs.Promises.{new_system}
 use Rattle.par2_matrix.proofs.system.System.new.Goals as goal
 

@@ -1,6 +1,9 @@
 use Rattle.par2_solve.proofs.Common.{rules, length}
-use Rattle.par2_solve.proofs.Runs.{close-iff, not_empty}
+use Rattle.par2_solve.proofs.RunInverses.{close-iff, not_empty, rises_to_the_end}
 use Rattle.par2_solve.proofs.exponents.Exponents.are_close.Goals as goal
 
+pub overflow_sub-span-2 : goal.overflow_sub-span-2
+overflow_sub-span-2 c = rises_to_the_end c.args.self.now.numbers.now c.args.self.now.rise (not_empty (length c.args.self.now.numbers.now) (search rules))
+
 pub returns : goal.returns
-returns c = rw c.span.ensures (close-iff c.args.self.now.numbers.now c.args.count c.args.self.now.rise (not_empty (length c.args.self.now.numbers.now) (search rules)))
+returns c = close-iff c.args.self.now.numbers.now c.args.count c.args.self.now.rise (not_empty (length c.args.self.now.numbers.now) (search rules))

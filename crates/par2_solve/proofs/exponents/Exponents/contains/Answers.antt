@@ -1,6 +1,6 @@
 use Rattle.par2_solve.proofs.Common.{◌∙◌, arith}
 use Rattle.std.proofs.lemmas.List.Sorted.{searched}
-use Rattle.par2_solve.proofs.Runs.{rises_between}
+use Rattle.par2_solve.proofs.RunInverses.{rises_between}
 use Rattle.par2_solve.proofs.Windows.{found_among}
 use Rattle.par2_solve.proofs.exponents.Exponents.contains.Goals as goal
 

@@ -1,7 +1,4 @@
-use Rattle.par2_transform.proofs.Common.{◌+◌, ◌-◌, ◌^◌, ◌<◌, ◌≡◌, ◌∙◌, ap, sym, subst, arith, length, mul, pow, Grid, column, field_sum_same, numerator, lists_of, byte_lists, words_at, quotient_sum}
-use Rattle.par2_transform.proofs.ColumnLaws.{wider_fit}
-use Rattle.par2_transform.specs.Locators.{HoldNumerators}
-use Rattle.par2_transform.proofs.LocatorLaws.{shifted_most, next_coset, all_cosets}
+use Rattle.par2_transform.proofs.Names.{rules, ◌-◌, ◌^◌, ◌<◌, ◌≡◌, ◌∙◌, ap, sym, subst, arith, length, AreCopied, EachColumn, Grid, lists_of, byte_lists, words_at, quotient_sum, wider_fit, HoldNumerators, IsCombination, combinations_of, shifted_most, next_coset, all_cosets}
 use Rattle.par2_transform.proofs.locator.Locator.add_columns.Goals as goal
 
 pub add_coset-requires : goal.add_coset-requires
@@ -11,10 +8,12 @@ add_coset-requires c =
     let was = c.args.scratch.now in
     let mid = c.sum.new.scratch in
     let numerators = c.sum.ensures.numerators in
-    let combinations = c.combine.ensures in
     let n = length self.numerators.sequence.items in
-    let levels = combinations.levels ∙ sym mid.same_levels ∙ numerators.levels ∙ was.same_levels in
-    let words = combinations.words ∙ sym mid.same_words ∙ numerators.words ∙ was.same_words in
+    let many : c.len-count.result ≡ n = search rules in
+    let copied = c.copy_from.ensures in
+    let combinations = c.to_combinations.ensures in
+    let levels = combinations.levels ∙ copied.levels ∙ c.clear.ensures.levels ∙ sym mid.same_levels ∙ numerators.levels ∙ was.same_levels in
+    let words = combinations.words ∙ copied.words ∙ c.clear.ensures.words ∙ sym mid.same_words ∙ numerators.words ∙ was.same_words in
     record {
       coset = subst (λ n. l.coset < n) (shifted_most (16 - self.levels) (omega arith)) c.loop-coset-test.true;
       serves = record {
@@ -24,10 +23,10 @@ add_coset-requires c =
       };
       bytes = c.sum.ensures.bytes;
       numerators = subst (HoldNumerators self.levels self.numerators.sequence.items (byte_lists c.args.sources.now) c.args.columns.now.from) (sym l.invariant.kept)
-          (λ k x low hx.
-          combinations.each k x (omega (arith, low, combinations.words)) hx
-          ∙ field_sum_same n (λ t. mul (column mid.sums k t) (pow x t)) (λ t. mul (numerator self.numerators.sequence.items (words_at (byte_lists c.args.sources.now) (c.args.columns.now.from + k)) t) (pow x t))
-          (λ t h. ap (λ v. mul v (pow x t)) (numerators.each k t (omega (arith, low, words, was.same_words)) (omega (arith, h, self.whole)))));
+          (combinations_of self.levels self.numerators.count self.numerators.sequence.items (byte_lists c.args.sources.now) c.args.columns.now.from was.sums mid.sums c.clear.new.self c.copy_from.new.self c.to_combinations.new.rows
+          self.fit self.whole (words ∙ sym was.same_words) c.clear.ensures.zero numerators
+          (subst (λ m. AreCopied m mid.sums c.clear.new.self c.copy_from.new.self) many copied)
+          (subst (λ m. EachColumn (IsCombination m self.levels) c.copy_from.new.self c.to_combinations.new.rows) many combinations));
     }
 
 pub loop-coset-preserved : goal.loop-coset-preserved

@@ -1,5 +1,4 @@
-use Rattle.par2_transform.proofs.Common.{◌≡◌, lists_of, byte_lists, words_at, quotient_sum}
-use Rattle.par2_transform.proofs.LocatorLaws.{CosetsAdded}
+use Rattle.par2_transform.proofs.Names.{◌≡◌, lists_of, byte_lists, words_at, quotient_sum, CosetsAdded}
 use Rattle.par2_transform.proofs.locator.Locator.add_columns.Given as goal
 
 abbrev pub invariant-loop-coset : goal.invariant-loop-coset

@@ -1,5 +1,4 @@
-use Rattle.par2_transform.proofs.Common.{lists_of, byte_lists, words_at, quotient_sum}
-use Rattle.par2_transform.proofs.LocatorLaws.{FirstAdded, coset_part}
+use Rattle.par2_transform.proofs.Names.{lists_of, byte_lists, words_at, quotient_sum, FirstAdded, coset_part}
 use Rattle.par2_transform.proofs.locator.Locator.add_coset.Given as goal
 
 abbrev pub invariant-loop-j : goal.invariant-loop-j

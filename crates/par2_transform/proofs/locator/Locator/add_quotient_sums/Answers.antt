@@ -1,8 +1,37 @@
-use Rattle.par2_transform.proofs.Common.{◌∙◌, IfOk-weaker, Adds, quotient_word}
-use Rattle.par2_transform.proofs.WholeBuffers.{are_whole}
+use Rattle.par2_transform.proofs.Names.{◌∙◌, ◌≡◌, ap, arith, length, lists_of, Places, quotient_word, are_whole, begins, next_words, all_words}
+use Rattle.par2_transform.proofs.Additions.{columns_within}
 use Rattle.par2_transform.proofs.locator.Locator.add_quotient_sums.Goals as goal
+
+pub columns-columns-requires : goal.columns-columns-requires
+columns-columns-requires c = begins c.new-outputs.result.words c.columns_for-width.result c.loop-k.k c.div_ceil-k-end.result c.columns_for-width.ensures.few.0 c.div_ceil-k-end.ensures c.loop-k-test.true
+
+pub loop-k-preserved : goal.loop-k-preserved
+loop-k-preserved c =
+    let is = c.columns-columns.ensures in
+    let e = c.add_columns.ensures in
+    let low = begins c.new-outputs.result.words c.columns_for-width.result c.loop-k.k c.div_ceil-k-end.result c.columns_for-width.ensures.few.0 c.div_ceil-k-end.ensures c.loop-k-test.true in
+    record {
+      levels = e.size.levels ∙ c.loop-k.invariant.levels;
+      words = e.size.words ∙ c.loop-k.invariant.words;
+      added = next_words c.new-outputs.result c.columns-columns.result c.columns_for-width.result c.loop-k.k (quotient_word c.args.self.now c.args.sources.now) _ _ _ c.loop-k.invariant.added low is.outputs is.from is.to e.added;
+    }
 
 pub returns : goal.returns
 returns c =
-    let whole = are_whole c.args.words c.new-outputs.result c.in_ok-places.places.items c.args.buffers.now c.in_ok-places.ensures (c.new-outputs.ensures.places ∙ c.deref.ensures.value) c.new-outputs.ensures.words c.requires.size in
-    IfOk-weaker c.add_words.result (λ _. Adds c.new-outputs.result (quotient_word c.args.self.now c.args.sources.now) c.args.buffers.now c.add_words.new.buffers) _ (λ _ added. whole.each _ _ added) c.add_words.ensures
+    let outputs = c.new-outputs.result in
+    let l = c.loop-k in
+    let whole = are_whole c.args.words outputs c.in_ok-places.places.items c.args.buffers.now c.in_ok-places.ensures (c.new-outputs.ensures.places ∙ c.deref.ensures.value) c.new-outputs.ensures.words c.requires.size in
+    let end : l.k ≡ c.div_ceil-k-end.result = omega (arith, c.loop-k-test.false, l.auto.k-end) in
+    whole.each _ _ (all_words outputs c.columns_for-width.result l.k (quotient_word c.args.self.now c.args.sources.now) _ _ c.columns_for-width.ensures.few.0 (end ∙ c.div_ceil-k-end.ensures) l.invariant.added)
+
+pub add_columns-requires-clause-serves : goal.add_columns-requires-clause-serves
+add_columns-requires-clause-serves c =
+    let outputs = c.new-outputs.result in
+    let l = c.loop-k in
+    let is = c.columns-columns.ensures in
+    let whole = are_whole c.args.words outputs c.in_ok-places.places.items c.args.buffers.now c.in_ok-places.ensures (c.new-outputs.ensures.places ∙ c.deref.ensures.value) c.new-outputs.ensures.words c.requires.size in
+    record {
+      count = ap (λ (o : Places). length o.places.now) is.outputs ∙ whole.count ∙ c.requires.count;
+      levels = l.invariant.levels;
+      fits = record { narrow = omega (arith, is.from, is.to, l.invariant.words); room = columns_within outputs c.columns-columns.result _ (lists_of c.args.buffers.now) (lists_of l.buffers) is.outputs l.invariant.added whole.room };
+    }

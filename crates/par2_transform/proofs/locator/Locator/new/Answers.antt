@@ -1,5 +1,4 @@
-use Rattle.par2_transform.proofs.Common.{ℕ, List, ◌-◌, ◌^◌, ◌≤◌, ◌≡◌, ◌∙◌, sym, ap, subst, rules, arith, length, slice_index, GivesElements}
-use Rattle.par2_transform.proofs.LocatorLaws.{half_fits, numbered_by}
+use Rattle.par2_transform.proofs.Names.{ℕ, List, ◌-◌, ◌^◌, ◌≤◌, ◌≡◌, ◌∙◌, sym, ap, subst, rules, arith, length, slice_index, GivesElements, half_fits, numbered_by}
 use Rattle.par2_transform.proofs.locator.Locator.new.Goals as goal
 
 pub invariant_of-result : goal.invariant_of-result
@@ -13,7 +12,7 @@ invariant_of-result c = record {
   factors_count = c.requires.factors;
   points_fit = points_fit;
   factors_fit = subst (λ (xs : List ℕ). GivesElements (slice_index xs)) c.deref-4.ensures.value c.fit_words-2.ensures;
-  numbered = numbered_by c.args.points.items c.deref.result.now c.in_ok-numbers.numbers.items c.deref-2.result.now c.in_ok-next.next.items points_fit c.deref.ensures.value c.in_ok-numbers.ensures c.deref-2.ensures.value c.in_ok-next.ensures.count c.in_ok-next.ensures.listed;
+  numbered = numbered_by c.args.points.items c.deref.result.now c.in_ok-numbers.numbers.items c.deref-2.result.now c.in_ok-next.next.items points_fit c.deref.ensures.value (search rules) c.deref-2.ensures.value c.in_ok-next.ensures.count c.in_ok-next.ensures.listed;
 }
   where
     whole : c.in_ok-numerators.numerators.count ≡ length c.in_ok-numerators.numerators.sequence.items

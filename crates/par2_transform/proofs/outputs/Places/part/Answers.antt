@@ -1,4 +1,4 @@
-use Rattle.par2_transform.proofs.GroupLaws.{group_apart}
+use Rattle.par2_transform.proofs.Additions.{group_apart}
 use Rattle.par2_transform.proofs.outputs.Places.part.Goals as goal
 
 pub invariant_of-result : goal.invariant_of-result

@@ -1,5 +1,4 @@
-use Rattle.par2_transform.proofs.Common.{◌+◌, ◌∙◌, IfOk-weaker, Adds, byte_lists, recovered}
-use Rattle.par2_transform.proofs.WholeBuffers.{are_whole}
+use Rattle.par2_transform.proofs.Names.{◌+◌, ◌∙◌, IfOk-weaker, Adds, byte_lists, recovered, are_whole}
 use Rattle.par2_transform.proofs.recovery.Transform.add_recovery_slices.Goals as goal
 
 pub returns : goal.returns

@@ -1,7 +1,4 @@
-use Rattle.par2_transform.proofs.Common.{◌≡◌, ◌+◌, ◌-◌, ◌*◌, ◌∙◌, ℕ, List, length, min, ap, subst, arith, add_assoc, div_ceil, lists_of, AddsAt, byte_lists, recovered, Place}
-use Rattle.par2_transform.proofs.AddingLaws.{adds_same}
-use Rattle.par2_transform.proofs.ColumnLaws.{begins}
-use Rattle.par2_transform.proofs.GroupLaws.{group_of, adds_to_group, next_group}
+use Rattle.par2_transform.proofs.Names.{◌≡◌, ◌+◌, ◌-◌, ◌*◌, ◌∙◌, ℕ, List, length, min, ap, subst, arith, add_assoc, div_ceil, lists_of, AddsAt, byte_lists, recovered, Place, adds_same, begins, group_of, adds_to_group, next_group}
 use Rattle.par2_transform.proofs.recovery.Transform.add_recovery_slices_at.Goals as goal
 
 pub loop-k-preserved : goal.loop-k-preserved

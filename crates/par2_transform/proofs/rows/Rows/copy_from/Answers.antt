@@ -1,5 +1,4 @@
-use Rattle.par2_transform.proofs.Common.{rules, ◌≡◌, ◌*◌, ◌∙◌, ap, sym, subst, List, length, with_items_is, AreCopied, CopiesVectors, Grid, WordVector}
-use Rattle.par2_transform.proofs.GridLaws.{rows_copied}
+use Rattle.par2_transform.proofs.Names.{rules, ◌≡◌, ◌*◌, ◌∙◌, ap, sym, subst, List, length, with_items_is, AreCopied, CopiesVectors, Grid, WordVector, rows_copied}
 use Rattle.par2_transform.proofs.rows.Rows.copy_from.Goals as goal
 
 pub returns : goal.returns

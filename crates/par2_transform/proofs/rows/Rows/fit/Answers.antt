@@ -1,5 +1,4 @@
-use Rattle.par2_transform.proofs.Common.{◌*◌}
-use Rattle.par2_transform.proofs.GridLaws.{column_fits}
+use Rattle.par2_transform.proofs.Names.{◌*◌, column_fits}
 use Rattle.par2_transform.proofs.rows.Rows.fit.Goals as goal
 
 pub returns : goal.returns

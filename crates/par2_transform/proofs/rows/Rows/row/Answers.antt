@@ -1,5 +1,4 @@
-use Rattle.par2_transform.proofs.Common.{◌∙◌, ◌-◌, ap, take, drop, word_of}
-use Rattle.par2_transform.proofs.GridLaws.{row_column}
+use Rattle.par2_transform.proofs.Names.{◌∙◌, ◌-◌, ap, take, drop, word_of, row_column}
 use Rattle.par2_transform.proofs.rows.Rows.row.Goals as goal
 
 pub returns-clause-words : goal.returns-clause-words

@@ -1,5 +1,4 @@
-use Rattle.par2_transform.proofs.Common.{◌+◌, sym, subst, lists_of, within, AddsAt, class_sum_at, words_at, cut_of}
-use Rattle.par2_transform.proofs.ClassLaws.{class_added, nothing_added}
+use Rattle.par2_transform.proofs.Names.{◌+◌, sym, subst, lists_of, within, AddsAt, class_sum_at, words_at, cut_of, class_added, nothing_added}
 use Rattle.par2_transform.proofs.windows.Windows.add_class.Goals as goal
 
 pub returns-then-self-eq3-clause-added : goal.returns-then-self-eq3-clause-added

@@ -1,5 +1,4 @@
-use Rattle.par2_transform.proofs.Common.{arith, ◌≡◌, subst, lists_of, cut_of}
-use Rattle.par2_transform.proofs.ClassLaws.{ClassesAdded, no_class, next_class, all_classes}
+use Rattle.par2_transform.proofs.Names.{arith, ◌≡◌, subst, lists_of, cut_of, ClassesAdded, no_class, next_class, all_classes}
 use Rattle.par2_transform.proofs.windows.Windows.add_classes.Goals as goal
 
 pub loop-r-init : goal.loop-r-init

@@ -1,5 +1,4 @@
-use Rattle.par2_transform.proofs.Common.{lists_of, cut_of}
-use Rattle.par2_transform.proofs.ClassLaws.{ClassesAdded}
+use Rattle.par2_transform.proofs.Names.{lists_of, cut_of, ClassesAdded}
 use Rattle.par2_transform.proofs.windows.Windows.add_classes.Given as goal
 
 abbrev pub invariant-loop-r : goal.invariant-loop-r

@@ -1,5 +1,4 @@
-use Rattle.par2_transform.proofs.Common.{HaveFirst, cut_of}
-use Rattle.par2_transform.proofs.WindowLaws.{coefficients_from}
+use Rattle.par2_transform.proofs.Names.{HaveFirst, cut_of, coefficients_from}
 use Rattle.par2_transform.proofs.windows.Windows.fill.Given as goal
 
 abbrev pub invariant-loop-i : goal.invariant-loop-i

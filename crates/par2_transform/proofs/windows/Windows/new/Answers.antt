@@ -1,5 +1,4 @@
-use Rattle.par2_transform.proofs.Common.{arith, ◌≤◌, ◌*◌, coprimes_below}
-use Rattle.par2_transform.proofs.CoprimeSums.{coprimes_below-mono}
+use Rattle.par2_transform.proofs.Names.{arith, ◌≤◌, ◌*◌, coprimes_below, coprimes_below-mono}
 use Rattle.par2_transform.proofs.windows.Windows.new.Goals as goal
 
 pub invariant_of-result : goal.invariant_of-result

@@ -1,5 +1,0 @@
-use Rattle.par2_solve.proofs.Common.{◌≡◌, length, take, lists_of, all_coefficients}
-use Rattle.par2_solve.proofs.encoder.Encoder.rows_over.Given as goal
-
-abbrev pub invariant-loop-i : goal.invariant-loop-i
-invariant-loop-i l = lists_of l.rows.items ≡ all_coefficients (length l.self.slices.now) (take l.i l.exponents)

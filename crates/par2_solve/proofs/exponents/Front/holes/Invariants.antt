@@ -1,0 +1,6 @@
+use Rattle.par2_solve.proofs.Common.{◌≡◌, filter, range_with_len}
+use Rattle.par2_solve.specs.BufferContents.{is_hole}
+use Rattle.par2_solve.proofs.exponents.Front.holes.Given as goal
+
+abbrev pub invariant-loop-x : goal.invariant-loop-x
+invariant-loop-x l = l.places.items ≡ filter (is_hole l.self.numbers.now) (range_with_len 0 l.x)

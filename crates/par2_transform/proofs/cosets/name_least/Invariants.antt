@@ -1,5 +1,0 @@
-use Rattle.par2_transform.proofs.CosetLaws.{NamedFrom}
-use Rattle.par2_transform.proofs.cosets.name_least.Given as goal
-
-abbrev pub invariant-loop-a : goal.invariant-loop-a
-invariant-loop-a l = NamedFrom l.a l.fn.next l.next

@@ -1,4 +1,0 @@
-use Rattle.par2_transform.proofs.weights.+weigh_run.Given as goal
-
-abbrev pub decreases-weigh_run : goal.decreases-weigh_run
-decreases-weigh_run l = l.i
