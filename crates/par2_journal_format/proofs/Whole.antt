@@ -1,36 +1,29 @@
 -- Whole journals: what is read is spelled so, and what is spelled so is read, before its digest is tested and after.
-use Rattle.par2_journal_format.proofs.Common.{◌≡◌, ℕ, ◌-◌, ◌+◌, ◌^◌, ◌≤◌, ◌<◌, Bool, true, false, cond, leb, eqb, ◌&&◌, List, [], ◌++◌, length, take, drop, Option, Some, None, refl, sym, ap, subst, ◌∙◌, append_assoc, arith, inl, inr, flat_map, ◌⊎◌, if◌then◌else◌, w64, to_le_bytes, leb-true, le-leb, eqb-true, and_parts, and_from, same_Some, cond_some, none-some, append-nil, nil_from_length, take-append-drop, take_at, drop_at, length-append, md5, Change, HalfwayPart, Journal, IsEntry, IsCursor, IsJournal, Spells, heading, cursor_bytes, entry_bytes, halfway_bytes, journal_bytes, spelling, AreBytes, bytes-take, ◌>>=◌, some_where, block_at, number_at, many_at, entry_at, halfway_at, cursor_in, IsSealed, heading_at, cursor_at, parts_at, ◌∷◌, Write, Replace, Rename, Remove, change_bytes, Result, Err, Fails, AreCounted, change_count, DecodeFault, JournalInvalid, Memory, ◌↔◌}
+use Rattle.par2_journal_format.proofs.Common.{err_from_is_err_and, ◌≡◌, ℕ, ◌-◌, ◌+◌, ◌^◌, ◌≤◌, ◌<◌, Bool, true, false, cond, leb, eqb, ◌&&◌, List, [], ◌++◌, length, take, drop, Option, Some, None, refl, sym, ap, subst, ◌∙◌, append_assoc, arith, inl, inr, ◌∷◌, Result, Err, flat_map, ◌⊎◌, if◌then◌else◌, ◌↔◌, w64, to_le_bytes, leb-true, le-leb, eqb-true, and_parts, and_from, same_Some, cond_some, none-some, append-nil, nil_from_length, take-append-drop, take_at, drop_at, length-append, Change, HalfwayPart, Journal, IsEntry, IsCursor, IsJournal, Spells, heading, cursor_bytes, entry_bytes, halfway_bytes, journal_bytes, spelling, AreBytes, Write, Replace, Rename, Remove, change_bytes, bytes-take, ◌>>=◌, block_at, number_at, many_at, entry_at, halfway_at, cursor_in, IsSealed, heading_at, cursor_at, parts_at, Fails, AreCounted, Continues, Begins, IsRefusal, JournalFault, FolderChanged, JournalInvalid, Memory, sum_by}
+use Rattle.md5.specs.Md5.{md5}
 use Rattle.std.specs.Str.{bytes_eq}
 use Rattle.std.proofs.lemmas.Slice.Eq.{bytes_eq-Decides}
 use Rattle.par2_spec.specs.declared.Version.{Version}
 use Rattle.md5.proofs.StandardFacts.{length-md5}
 use Rattle.par2_spec.specs.declared.Version.TheVariants.{One, Two}
-use Rattle.par2_journal_format.proofs.Fields.{bind_some, Took, Took-then, block_read, block_again, number_read, number_again, many_read}
-use Rattle.par2_journal_format.proofs.Pieces.{entry_read, halfway_read}
+use Rattle.par2_journal_format.proofs.Fields.{bind_some, Took, Took-then, block_read, block_again, number_read, number_again, many_read, entry_read, halfway_read}
 use Rattle.std.proofs.lemmas.List.Sums.{sum_by-cons}
-use Rattle.par2_journal_format.specs.declared.reading.Untested.{Untested}
 
 -- ---- heading
 
-chosen : {A : Type 0} (b c : Bool) (x y z : A) → cond b (Some x) (cond c (Some y) None) ≡ Some z → ((b ≡ true) × (x ≡ z)) ⊎ ((c ≡ true) × (y ≡ z))
-chosen true c x y z e = inl (refl, same_Some x z e)
-chosen false true x y z e = inr (refl, same_Some y z e)
-chosen false false x y z e = absurd (none-some z e)
-
 abbrev version_in : List ℕ × List ℕ → Option (Version × List ℕ)
 version_in x = if bytes_eq x.0 (heading One) then Some (One, x.1) else if bytes_eq x.0 (heading Two) then Some (Two, x.1) else None
+
+version_takes : (front rest : List ℕ) (x : Version × List ℕ) → version_in (front, rest) ≡ Some x → (front ≡ heading x.0) × (rest ≡ x.1)
+version_takes front rest x e = grind (arith, (bytes_eq-Decides front (heading One)).0, (bytes_eq-Decides front (heading Two)).0)
 
 heading_takes : (bytes : List ℕ) (x : Version × List ℕ) → AreBytes bytes → heading_at bytes ≡ Some x → Took bytes (heading x.0) x.1
 unfolding heading_at
 heading_takes bytes x fits e =
     let b = bind_some (block_at 8 bytes) version_in x e in
     let t = (block_read 8).takes bytes b.0 fits b.1 in
-    let is : (v : Version) → bytes_eq b.0.0 (heading v) ≡ true → (v, b.0.1) ≡ x → Took bytes (heading x.0) x.1 =
-    λ v same made. subst (λ (y : Version × List ℕ). Took bytes (heading y.0) y.1) made (subst (λ (s : List ℕ). Took bytes s b.0.1) ((bytes_eq-Decides b.0.0 (heading v)).0 same) t.0) in
-    elim (chosen (bytes_eq b.0.0 (heading One)) (bytes_eq b.0.0 (heading Two)) (One, b.0.1) (Two, b.0.1) x b.2) as (λ _. Took bytes (heading x.0) x.1) [
-      | inl p ↦ is One p.0 p.1
-      | inr p ↦ is Two p.0 p.1
-    ]
+    let v = version_takes b.0.0 b.0.1 x b.2 in
+    subst (λ (p : List ℕ × List ℕ). Took bytes p.0 p.1) (λ i. (v.0 i, v.1 i)) t.0
 
 heading_again : (v : Version) (rest : List ℕ) → heading_at (heading v ++ rest) ≡ Some (v, rest)
 unfolding heading_at
@@ -50,31 +43,25 @@ stored One c = 0
 stored Two c = c
 
 cursor_again : (v : Version) (c n : ℕ) (rest : List ℕ) → IsCursor v c n → n < 2 ^ 64 → cursor_at v (cursor_bytes v c ++ rest) ≡ Some (stored v c, rest)
-unfolding cursor_at
-cursor_again One c n rest is lt = refl
-cursor_again Two c n rest is lt = let le : c ≤ n = is in number_again c rest (omega arith)
+cursor_again v c n rest is lt = unfold cursor_at in grind (arith, number_again)
 
 spelled : (v : Version) (c n : ℕ) → cursor_bytes v c ≡ cursor_bytes v (cursor_in v c n)
-spelled One c n = refl
-spelled Two c n = refl
+spelled v c n = grind arith
 
 within : (v : Version) (c n : ℕ) → leb (cursor_in v c n) n ≡ true → IsCursor v (cursor_in v c n) n
-within One c n h = refl
-within Two c n h = leb-true c n h
+within v c n h = grind (arith, leb-true)
 
 stored_back : (v : Version) (c n : ℕ) → IsCursor v c n → cursor_in v (stored v c) n ≡ c
-stored_back One c n is = sym is
-stored_back Two c n is = refl
+stored_back v c n is = grind arith
 
 at_most : (v : Version) (c n : ℕ) → IsCursor v c n → c ≤ n
-at_most One c n is = let e : c ≡ n = is in omega arith
-at_most Two c n is = is
+at_most v c n is = grind arith
 
 -- ---- the parts, one after the other
 
 abbrev all_of : Version → List ℕ → ℕ → ℕ → List (List Change) → Option HalfwayPart × List ℕ → Option Journal
 all_of v print c n es b =
-    some_where (leb (cursor_in v c n) n && eqb (length b.1) 0) (record { version = v; fingerprint = print; cursor = cursor_in v c n; entries = es; halfway = b.0 })
+    if leb (cursor_in v c n) n && eqb (length b.1) 0 then Some (record { version = v; fingerprint = print; cursor = cursor_in v c n; entries = es; halfway = b.0 }) else None
 
 abbrev after_entries : Version → List ℕ → ℕ → ℕ → List (List Change) × List ℕ → Option Journal
 after_entries v print c n es = halfway_at es.1 >>= all_of v print c n es.0
@@ -90,6 +77,10 @@ after_print v print = cursor_at v print.1 >>= after_cursor v print.0
 
 abbrev after_heading : Version × List ℕ → Option Journal
 after_heading v = block_at 16 v.1 >>= after_print v.0
+
+-- seven parts, one after the other
+in_order : (bytes a b c d e f g h i j k l : List ℕ) → bytes ≡ g ++ a → a ≡ h ++ b → b ≡ i ++ c → c ≡ j ++ d → d ≡ k ++ e → e ≡ l ++ f → f ≡ [] → bytes ≡ g ++ h ++ i ++ j ++ k ++ l
+in_order bytes a b c d e f g h i j k l p q r s t u v = rw (p, q, r, s, t, u, v) (simp (append_assoc, append-nil))
 
 pub parts_take : (bytes : List ℕ) (j : Journal) → AreBytes bytes → parts_at bytes ≡ Some j → IsJournal j × (bytes ≡ journal_bytes j)
 unfolding parts_at journal_bytes
@@ -111,18 +102,10 @@ parts_take bytes j fits e =
     let t4 = number_read.takes c.0.1 d.0 t3.fits d.1 in
     let t5 = (many_read entry_at entry_bytes IsEntry entry_read n).takes d.0.1 f.0 t4.0.fits f.1 in
     let t6 = halfway_read.takes f.0.1 g.0 t5.0.fits g.1 in
-    let u2 = Took-then bytes (heading v) a.0.1 b.0.0 b.0.1 t1 t2.0 in
-    let u3 = Took-then bytes (heading v ++ b.0.0) b.0.1 (cursor_bytes v c.0.0) c.0.1 u2 t3 in
-    let u4 = Took-then bytes (heading v ++ b.0.0 ++ cursor_bytes v c.0.0) c.0.1 (to_le_bytes w64 n) d.0.1 u3 t4.0 in
-    let u5 = Took-then bytes (heading v ++ b.0.0 ++ cursor_bytes v c.0.0 ++ to_le_bytes w64 n) d.0.1 (flat_map entry_bytes f.0.0) f.0.1 u4 t5.0 in
-    let u6 = Took-then bytes (heading v ++ b.0.0 ++ cursor_bytes v c.0.0 ++ to_le_bytes w64 n ++ flat_map entry_bytes f.0.0) f.0.1 (halfway_bytes g.0.0) g.0.1 u5 t6.0 in
-    let nothing : g.0.1 ≡ [] = nil_from_length g.0.1 (eqb-true _ _ tests.1) in
-    let spells : (cs ns rest : List ℕ) → List ℕ = λ cs ns rest. heading v ++ b.0.0 ++ cs ++ ns ++ flat_map entry_bytes f.0.0 ++ halfway_bytes g.0.0 ++ rest in
     let content : bytes ≡ journal_bytes made =
-    u6.parts ∙ ap (λ (rest : List ℕ). spells (cursor_bytes v c.0.0) (to_le_bytes w64 n) rest) nothing
-    ∙ append-nil (heading v ++ b.0.0 ++ cursor_bytes v c.0.0 ++ to_le_bytes w64 n ++ flat_map entry_bytes f.0.0 ++ halfway_bytes g.0.0)
-    ∙ ap (λ (cs : List ℕ). heading v ++ b.0.0 ++ cs ++ to_le_bytes w64 n ++ flat_map entry_bytes f.0.0 ++ halfway_bytes g.0.0) (spelled v c.0.0 n)
-    ∙ ap (λ (k : ℕ). heading v ++ b.0.0 ++ cursor_bytes v (cursor_in v c.0.0 n) ++ to_le_bytes w64 k ++ flat_map entry_bytes f.0.0 ++ halfway_bytes g.0.0) (sym t5.1.0) in
+    in_order bytes a.0.1 b.0.1 c.0.1 d.0.1 f.0.1 g.0.1 (heading v) b.0.0 (cursor_bytes v c.0.0) (to_le_bytes w64 n) (flat_map entry_bytes f.0.0) (halfway_bytes g.0.0)
+    t1.parts t2.0.parts t3.parts t4.0.parts t5.0.parts t6.0.parts (nil_from_length g.0.1 (eqb-true _ _ tests.1))
+    ∙ (λ i. heading v ++ b.0.0 ++ spelled v c.0.0 n i ++ to_le_bytes w64 (sym t5.1.0 i) ++ flat_map entry_bytes f.0.0 ++ halfway_bytes g.0.0) in
     let is : IsJournal made = record {
       fingerprint = t2.1;
       cursor = subst (λ (k : ℕ). IsCursor v (cursor_in v c.0.0 n) k) (sym t5.1.0) (within v c.0.0 n tests.0);
@@ -143,11 +126,8 @@ parts_again j is =
     let es : List ℕ = flat_map entry_bytes j.entries in
     let end : List ℕ = halfway_bytes j.halfway ++ [] in
     let s : ℕ = stored v j.cursor in
-    let tests : leb (cursor_in v s n) n && eqb 0 0 ≡ true =
-    and_from (leb (cursor_in v s n) n) (eqb 0 0) (le-leb (cursor_in v s n) n (subst (λ (k : ℕ). k ≤ n) (sym (stored_back v j.cursor n is.cursor)) (at_most v j.cursor n is.cursor))) refl in
     let last : all_of v j.fingerprint s n j.entries (j.halfway, []) ≡ Some j =
-    ap (λ (t : Bool). some_where t (let k : Journal = record { version = v; fingerprint = j.fingerprint; cursor = cursor_in v s n; entries = j.entries; halfway = j.halfway } in k)) tests
-    ∙ ap (λ (c : ℕ). let k : Option Journal = Some (record { version = v; fingerprint = j.fingerprint; cursor = c; entries = j.entries; halfway = j.halfway }) in k) (stored_back v j.cursor n is.cursor) in
+    rw (stored_back v j.cursor n is.cursor, le-leb j.cursor n (at_most v j.cursor n is.cursor)) refl in
     ap (λ (t : List ℕ). heading_at t >>= after_heading) (right (heading v) j.fingerprint (cursor_bytes v j.cursor) (to_le_bytes w64 n) es (halfway_bytes j.halfway))
     ∙ ap (λ (o : Option (Version × List ℕ)). o >>= after_heading) (heading_again v (j.fingerprint ++ (cursor_bytes v j.cursor ++ (to_le_bytes w64 n ++ (es ++ end)))))
     ∙ ap (λ (o : Option (List ℕ × List ℕ)). o >>= after_print v) (block_again 16 j.fingerprint (cursor_bytes v j.cursor ++ (to_le_bytes w64 n ++ (es ++ end))) is.fingerprint)
@@ -164,16 +144,17 @@ module _ (body bytes : List ℕ) (is : bytes ≡ body ++ md5 body) where
   long : length bytes ≡ length body + 16
   long = ap length is ∙ length-append body (md5 body) ∙ ap (λ (k : ℕ). length body + k) (length-md5 body)
 
+  split : length body ≡ length bytes - 16
+  split = omega (arith, long)
+
   front : take (length bytes - 16) bytes ≡ body
-  front = let n : length body ≡ length bytes - 16 = omega (arith, long) in ap (take (length bytes - 16)) is ∙ take_at body (md5 body) (length bytes - 16) n
+  front = ap (take (length bytes - 16)) is ∙ take_at body (md5 body) (length bytes - 16) split
 
   pub seals : IsSealed bytes
-  seals =
-      let n : length body ≡ length bytes - 16 = omega (arith, long) in
-      record {
-        long = omega (arith, long);
-        digest = ap (drop (length bytes - 16)) is ∙ drop_at body (md5 body) (length bytes - 16) n ∙ ap md5 (sym front);
-      }
+  seals = record {
+    long = omega (arith, long);
+    digest = ap (drop (length bytes - 16)) is ∙ drop_at body (md5 body) (length bytes - 16) split ∙ ap md5 (sym front);
+  }
 
 -- the bytes of a journal end with their digest, and are read before it
 pub spells_sealed : (bytes : List ℕ) (j : Journal) → Spells bytes j → IsSealed bytes
@@ -199,45 +180,18 @@ one_reading bytes a b p q = same_Some a b (sym (spells_parts bytes a p) ∙ spel
 -- ---- a change takes at least one byte, so bytes have no more changes than their length
 
 change_some : (change : Change) → 1 ≤ length (change_bytes change)
-change_some (Write name bytes) = omega arith
-change_some (Replace name bytes) = omega arith
-change_some (Rename from to) = omega arith
-change_some (Remove name) = omega arith
+change_some change = grind arith
 
 changes_within : (changes : List Change) → length changes ≤ length (flat_map change_bytes changes)
 changes_within [] = omega arith
-changes_within (change ∷ changes) =
-    omega (arith, change_some change, changes_within changes, length-append (change_bytes change) (flat_map change_bytes changes))
+changes_within (change ∷ changes) = grind (arith, change_some, changes_within changes, length-append)
 
-entries_within : (entries : List (List Change)) → change_count entries ≤ length (flat_map entry_bytes entries)
+entries_within : (entries : List (List Change)) → sum_by length entries ≤ length (flat_map entry_bytes entries)
 entries_within [] = omega arith
-entries_within (entry ∷ entries) =
-    let counts : List ℕ = to_le_bytes w64 (length entry) in
-    omega (
-      arith,
-      sum_by-cons length entry entries,
-      changes_within entry,
-      entries_within entries,
-      length-append counts (flat_map change_bytes entry),
-      length-append (entry_bytes entry) (flat_map entry_bytes entries),
-    )
+entries_within (entry ∷ entries) = grind (arith, sum_by-cons length entry entries, changes_within entry, entries_within entries, length-append)
 
 counted : (j : Journal) (body : List ℕ) → body ≡ journal_bytes j → length body < 2 ^ 64 → AreCounted j.entries
-unfolding journal_bytes
-counted j body is fits =
-    let v = j.version in
-    let cursor = cursor_bytes v j.cursor in
-    let count : List ℕ = to_le_bytes w64 (length j.entries) in
-    let entries = flat_map entry_bytes j.entries in
-    let end = halfway_bytes j.halfway in
-    omega (
-      arith,
-      entries_within j.entries,
-      fits,
-      ap length is,
-      length-append (heading v ++ j.fingerprint ++ cursor ++ count ++ entries) end,
-      length-append (heading v ++ j.fingerprint ++ cursor ++ count) entries,
-    )
+counted j body is fits = unfold journal_bytes in grind (arith, entries_within, ap length is, length-append)
 
 -- ---- the bytes from which a journal was read
 
@@ -245,7 +199,7 @@ pub too_short : (bytes : List ℕ) → length bytes < 16 → ¬ (IsSealed bytes)
 too_short bytes short sealed = absurd (omega (arith, short, sealed.long))
 
 module _ (content body digest : List ℕ) (enough : 16 ≤ length content) (start : body ≡ take (length content - 16) content) (end : digest ≡ drop (length content - 16) content) where
-  pub unread : parts_at body ≡ None → (j : Journal) → Spells content j → ⊥
+  unread : parts_at body ≡ None → (j : Journal) → Spells content j → ⊥
   unread none j spells = none-some j (sym none ∙ ap parts_at start ∙ spells_parts content j spells)
 
   pub sealed : (digest ≡ md5 body) ↔ IsSealed content
@@ -257,10 +211,23 @@ module _ (content body digest : List ℕ) (enough : 16 ≤ length content) (star
       let parts = parts_take (take (length content - 16) content) j (bytes-take (length content - 16) content fits) read in
       (parts.0, counted j body (start ∙ parts.1) short, λ right. parts_spell content j fits right read)
 
--- nothing was read, and not because memory ran out
-pub refused : (fault : DecodeFault) (r : Result Untested DecodeFault) (o : Option Journal) → Fails fault o → (y : DecodeFault) × (r ≡ Err y) × (y ≡ fault) → r ≡ Err JournalInvalid → o ≡ None
-refused fault r o fails p e = by_fault fault fails (cc (e, p.1, p.2))
-  where
-    by_fault : (f : DecodeFault) → Fails f o → f ≡ JournalInvalid → o ≡ None
-    by_fault Memory h is = absurd cc
-    by_fault JournalInvalid h is = h
+  -- nothing was read, or memory ran out
+  pub refused : (fault : JournalFault) → Fails fault (parts_at body) → IsRefusal content fault
+  refused Memory fails = inl refl
+  refused JournalInvalid fails = inr (refl, unread fails)
+  refused (FolderChanged halfway) fails = absurd fails
+
+-- bytes of a journal are refused only if memory runs out
+pub memory_alone : (bytes : List ℕ) (fault : JournalFault) → IsRefusal bytes fault → (j : Journal) → Spells bytes j → fault ≡ Memory
+memory_alone bytes fault (inl memory) j spells = memory
+memory_alone bytes fault (inr (is, none)) j spells = absurd (none j spells)
+
+pub ruleset reading = (err_from_is_err_and, spells_sealed, memory_alone, one_reading, too_short)
+
+-- a body and its digest spell the journal
+pub finished : (start : List ℕ) (halfway : Option HalfwayPart) (body : List ℕ) → Continues start halfway body → (bytes : List ℕ) → bytes ≡ body ++ md5 body
+    → (j : Journal) → Begins start j → Spells bytes (record j { halfway = halfway })
+unfolding spelling
+finished start halfway body continues bytes ends j begins =
+    let c = continues j begins in
+    (c.0, ends ∙ ap (λ b. b ++ md5 b) c.1)

@@ -1,3 +1,1 @@
-pub mod JournalViews
-pub mod Reading
-pub mod Fronts
+pub mod Journals

@@ -1,5 +1,8 @@
-//! The parts of a journal: owned as `decode` reads them, and borrowed as `encode` and `finish_both` write them.
-ghost use Rattle.std.specs.Prelude.{◌≡◌};
+//! The parts of a journal: owned as `decode` reads them, and borrowed as `encode` and `finish_both` write them. A law
+//! about its bytes is the contract of a function that does nothing.
+
+ghost use Rattle.std.specs.Prelude.{◌≡◌, ◌≤◌, ◌+◌, ℕ, List, length};
+ghost use Rattle.par2_spec.specs.Prelude.{Journal as Defined, Spells};
 ghost use Rattle.par2_spec.specs.Journals as journals;
 
 use par2_files::Changes;
@@ -36,6 +39,7 @@ pub struct JournalView<'a> {
     pub entries: &'a [Changes],
     /// Entries after those in `entries`.
     pub newer: &'a [Changes],
+    ghost within: { cursor ≤ length entries.now + length newer.now },
 }
 
 /// The borrowed parts of a [`HalfwayPart`].
@@ -43,6 +47,8 @@ pub struct JournalView<'a> {
 pub struct HalfwayPartView<'a> {
     pub fingerprints: &'a [[u8; 16]],
     pub back: &'a Changes,
+    ghost some: { 1 ≤ length back.now },
+    ghost each: { length fingerprints.now ≡ length back.now },
 }
 
 // The first eight bytes of a journal, which say its version.
@@ -54,3 +60,8 @@ pub(crate) fn heading(version: Version) -> &'static [u8]
         Version::Two => b"P2UNDO2\n".as_slice(),
     }
 }
+
+/// Bytes spell at most one journal.
+pub fn one_reading()
+    ensures { (bytes : List ℕ) (a b : Defined) → Spells bytes a → Spells bytes b → a ≡ b }
+{}

@@ -2,15 +2,11 @@
 //! knows no session: whether entries can be applied, and to which folder, is decided there.
 #![tactic(auto)]
 
-mod fault;
 mod journal;
-mod laws;
 mod reading;
 mod writing;
 
-pub use fault::DecodeFault;
-pub use journal::{HalfwayPart, HalfwayPartView, Journal, JournalView};
-pub use laws::one_reading;
-pub use par2_spec::Version;
+pub use journal::{HalfwayPart, HalfwayPartView, Journal, JournalView, one_reading};
+pub use par2_spec::{JournalFault as DecodeFault, Version};
 pub use reading::{Untested, decode, decode_untested, is_sealed};
 pub use writing::{JournalBytes, begin, encode, finish_both};

@@ -1,72 +1,72 @@
 //! Decoding a journal. Each reader returns a part from the front of the bytes, and the bytes after it; `Gives`: it
-//! returns what its definition in `specs/Reading.antt` reads, JournalInvalid if that reads nothing, or Memory.
+//! returns what its definition in `specs/Journals.antt` reads, JournalInvalid if that reads nothing, or Memory.
 //! `decode_untested` splits the digest off and reads heading, fingerprint, cursor, entries and halfway part; `decode`
 //! tests the digest first.
-ghost use Rattle.std.specs.Prelude.{◌≡◌, ◌↔◌, IfOk, IsTrue, Err, MatchResult};
-ghost use Rattle.par2_spec.specs.Journals.{Journal as Defined, Spells};
-ghost use Rattle.par2_files.specs.ChangeViews.{change_of};
-ghost use Rattle.par2_journal_format.specs.Reading as reads;
-ghost use Rattle.par2_journal_format.specs.Reading.{Gives, IsSealed, IsUntested};
-ghost use Rattle.par2_journal_format.specs.JournalViews.{halfway_of, journal_of};
-ghost use Rattle.par2_journal_format.specs.declared.fault.DecodeFault.TheVariants.{JournalInvalid, Memory};
+#![tactic(auto, using(crate::proofs::Whole::reading))]
+
+ghost use Rattle.std.specs.Prelude.{◌≡◌, ◌↔◌, IfErr, IfOk, IsTrue, Err, MatchResult};
+ghost use Rattle.par2_spec.specs.Prelude.{Journal as Defined, Spells};
+ghost use Rattle.par2_files.specs.Folders.{change_of};
+ghost use Rattle.par2_journal_format.specs.Journals.{Gives, IsRefusal, IsSealed, IsUntested, behind_length_at, block_at, change_at, entry_at, halfway_at, halfway_of, heading_at, journal_of, many_at, name_at, number_at, parts_at};
+ghost use Rattle.par2_spec.specs.declared.JournalFault.TheVariants.{JournalInvalid, Memory};
 
 use crate::journal::heading;
-use crate::{DecodeFault, HalfwayPart, Journal};
+use crate::{HalfwayPart, Journal};
 use md5::{Digest, Md5};
 use par2_files::{Bytes, Change, Changes, Name};
-use par2_spec::Version;
-use std::alloc::Global;
+use par2_spec::{JournalFault, Version};
+use std::alloc::{AllocFailed, Global};
 
 // A part from the front, and the bytes after it.
-type Read<'a, T> = Result<(T, &'a [u8]), DecodeFault>;
+type Read<'a, T> = Result<(T, &'a [u8]), JournalFault>;
 
 // The first `len` bytes, borrowed, so that nothing is allocated for a length that is only claimed. JournalInvalid if
 // there are fewer.
-#[tactic(auto, unfolding(crate::specs::Reading::block_at))]
-fn read_block(bytes: &[u8], len: usize) -> Result<(&[u8], &[u8]), DecodeFault>
-    ensures { Gives (λ x. (x.0.now, x.1.now)) result (reads.block_at len bytes.now) }
+#[tactic(auto, unfolding(crate::specs::Journals::block_at))]
+fn read_block(bytes: &[u8], len: usize) -> Result<(&[u8], &[u8]), JournalFault>
+    ensures { Gives (λ x. (x.0.now, x.1.now)) result (block_at len bytes.now) }
 {
     let blocks = bytes.split_at_checked(len);
-    blocks.ok_or(DecodeFault::JournalInvalid)
+    blocks.ok_or(JournalFault::JournalInvalid)
 }
 
 // A number of eight bytes, little-endian: a length, a count or the cursor.
-#[tactic(auto, unfolding(crate::specs::Reading::number_at))]
-fn read_number(bytes: &[u8]) -> Result<(u64, &[u8]), DecodeFault>
-    ensures { Gives (λ x. (x.0, x.1.now)) result (reads.number_at bytes.now) }
+#[tactic(auto, unfolding(crate::specs::Journals::number_at))]
+fn read_number(bytes: &[u8]) -> Result<(u64, &[u8]), JournalFault>
+    ensures { Gives (λ x. (x.0, x.1.now)) result (number_at bytes.now) }
 {
     let chunk = bytes.split_first_chunk();
-    let (number, rest) = chunk.ok_or(DecodeFault::JournalInvalid)?;
+    let (number, rest) = chunk.ok_or(JournalFault::JournalInvalid)?;
     Ok((u64::from_le_bytes(*number), rest))
 }
 
 // A folder's fingerprint, at the front or in the halfway part; `split_digest` reads the digest at the end.
-#[tactic(auto, unfolding(crate::specs::Reading::block_at))]
-fn read_digest(bytes: &[u8]) -> Result<([u8; 16], &[u8]), DecodeFault>
-    ensures { Gives (λ x. (x.0, x.1.now)) result (reads.block_at 16 bytes.now) }
+#[tactic(auto, unfolding(crate::specs::Journals::block_at))]
+fn read_digest(bytes: &[u8]) -> Result<([u8; 16], &[u8]), JournalFault>
+    ensures { Gives (λ x. (x.0, x.1.now)) result (block_at 16 bytes.now) }
 {
     let chunk = bytes.split_first_chunk();
-    let (digest, rest) = chunk.ok_or(DecodeFault::JournalInvalid)?;
+    let (digest, rest) = chunk.ok_or(JournalFault::JournalInvalid)?;
     Ok((*digest, rest))
 }
 
 // A file name: its length in one byte, then its bytes. JournalInvalid if they aren't a `Name`.
-#[tactic(auto, unfolding(crate::specs::Reading::name_at))]
-fn read_name(bytes: &[u8]) -> Result<(Name, &[u8]), DecodeFault>
-    ensures { Gives (λ x. (x.0, x.1.now)) result (reads.name_at bytes.now) }
+#[tactic(auto, unfolding(crate::specs::Journals::name_at))]
+fn read_name(bytes: &[u8]) -> Result<(Name, &[u8]), JournalFault>
+    ensures { Gives (λ x. (x.0, x.1.now)) result (name_at bytes.now) }
 {
     let [len, rest @ ..] = bytes else {
-        return Err(DecodeFault::JournalInvalid);
+        return Err(JournalFault::JournalInvalid);
     };
     let (encoded, rest) = read_block(rest, *len as usize)?;
-    let name = Name::from_bytes(encoded).ok_or(DecodeFault::JournalInvalid)?;
+    let name = Name::from_bytes(encoded).ok_or(JournalFault::JournalInvalid)?;
     Ok((name, rest))
 }
 
 // The bytes of a file, copied: their number in eight bytes, then the bytes.
-#[tactic(auto, unfolding(crate::specs::Reading::behind_length_at))]
-fn read_bytes(alloc: Global, bytes: &[u8]) -> Result<(Bytes, &[u8]), DecodeFault>
-    ensures { Gives (λ x. (x.0, x.1.now)) result (reads.behind_length_at bytes.now) }
+#[tactic(auto, unfolding(crate::specs::Journals::behind_length_at))]
+fn read_bytes(alloc: Global, bytes: &[u8]) -> Result<(Bytes, &[u8]), JournalFault>
+    ensures { Gives (λ x. (x.0, x.1.now)) result (behind_length_at bytes.now) }
 {
     let (len, rest) = read_number(bytes)?;
     let (content, rest) = read_block(rest, len as usize)?;
@@ -74,12 +74,12 @@ fn read_bytes(alloc: Global, bytes: &[u8]) -> Result<(Bytes, &[u8]), DecodeFault
 }
 
 // One change: its kind in one byte (1 write, 2 replace, 3 rename, 4 remove), its name, and the bytes or the new name.
-#[tactic(auto, unfolding(crate::specs::Reading::change_at))]
-fn read_change(alloc: Global, bytes: &[u8]) -> Result<(Change, &[u8]), DecodeFault>
-    ensures { Gives (λ x. (change_of x.0, x.1.now)) result (reads.change_at bytes.now) }
+#[tactic(auto, unfolding(crate::specs::Journals::change_at))]
+fn read_change(alloc: Global, bytes: &[u8]) -> Result<(Change, &[u8]), JournalFault>
+    ensures { Gives (λ x. (change_of x.0, x.1.now)) result (change_at bytes.now) }
 {
     let [kind, rest @ ..] = bytes else {
-        return Err(DecodeFault::JournalInvalid);
+        return Err(JournalFault::JournalInvalid);
     };
     let (name, rest) = read_name(rest)?;
     match kind {
@@ -96,14 +96,14 @@ fn read_change(alloc: Global, bytes: &[u8]) -> Result<(Change, &[u8]), DecodeFau
             Ok((Change::Rename(name, to), rest))
         }
         4 => Ok((Change::Remove(name), rest)),
-        _ => Err(DecodeFault::JournalInvalid),
+        _ => Err(JournalFault::JournalInvalid),
     }
 }
 
 // `count` changes one after the other. The list grows by changes that were read, so that no memory is taken for a count
 // that is only claimed.
-fn read_changes(alloc: Global, count: u64, bytes: &[u8]) -> Result<(Changes, &[u8]), DecodeFault>
-    ensures { Gives (λ x. (x.0, x.1.now)) result (reads.many_at reads.change_at count bytes.now) }
+fn read_changes(alloc: Global, count: u64, bytes: &[u8]) -> Result<(Changes, &[u8]), JournalFault>
+    ensures { Gives (λ x. (x.0, x.1.now)) result (many_at change_at count bytes.now) }
 {
     let mut changes = Changes::new(alloc);
     let mut rest = bytes;
@@ -116,9 +116,9 @@ fn read_changes(alloc: Global, count: u64, bytes: &[u8]) -> Result<(Changes, &[u
 }
 
 // One entry of the history, an undo or a redo: the number of its changes, then the changes.
-#[tactic(auto, unfolding(crate::specs::Reading::entry_at))]
-fn read_entry(alloc: Global, bytes: &[u8]) -> Result<(Changes, &[u8]), DecodeFault>
-    ensures { Gives (λ x. (x.0, x.1.now)) result (reads.entry_at bytes.now) }
+#[tactic(auto, unfolding(crate::specs::Journals::entry_at))]
+fn read_entry(alloc: Global, bytes: &[u8]) -> Result<(Changes, &[u8]), JournalFault>
+    ensures { Gives (λ x. (x.0, x.1.now)) result (entry_at bytes.now) }
 {
     let (count, rest) = read_number(bytes)?;
     read_changes(alloc, count, rest)
@@ -126,14 +126,14 @@ fn read_entry(alloc: Global, bytes: &[u8]) -> Result<(Changes, &[u8]), DecodeFau
 
 // `count` entries of the history, the oldest first. The list grows by entries that were read.
 fn read_entries(alloc: Global, count: u64, bytes: &[u8]) -> Read<'_, Vec<Changes>>
-    ensures { Gives (λ x. (x.0.items, x.1.now)) result
-        (reads.many_at reads.entry_at count bytes.now) }
+    ensures { Gives (λ x. (x.0.items, x.1.now)) result (many_at entry_at count bytes.now) }
 {
     let mut entries = Vec::new(alloc);
     let mut rest = bytes;
     for _ in 0..count {
         let (entry, behind) = read_entry(alloc, rest)?;
-        entries.push(entry)?;
+        let pushed = entries.push(entry);
+        pushed.map_err(|_: AllocFailed<Changes>| JournalFault::Memory)?;
         rest = behind;
     }
     Ok((entries, rest))
@@ -141,14 +141,14 @@ fn read_entries(alloc: Global, count: u64, bytes: &[u8]) -> Read<'_, Vec<Changes
 
 // `count` fingerprints, those after each change of a halfway command. The list grows by fingerprints that were read.
 fn read_digests(alloc: Global, count: u64, bytes: &[u8]) -> Read<'_, Vec<[u8; 16]>>
-    ensures { Gives
-        (λ x. (x.0.items, x.1.now)) result (reads.many_at (reads.block_at 16) count bytes.now) }
+    ensures { Gives (λ x. (x.0.items, x.1.now)) result (many_at (block_at 16) count bytes.now) }
 {
     let mut digests = Vec::new(alloc);
     let mut rest = bytes;
     for _ in 0..count {
         let (digest, behind) = read_digest(rest)?;
-        digests.push(digest)?;
+        let pushed = digests.push(digest);
+        pushed.map_err(|_: AllocFailed<[u8; 16]>| JournalFault::Memory)?;
         rest = behind;
     }
     Ok((digests, rest))
@@ -156,29 +156,29 @@ fn read_digests(alloc: Global, count: u64, bytes: &[u8]) -> Read<'_, Vec<[u8; 16
 
 // The halfway part: a 0 if no command is halfway; otherwise a 1, a count that isn't 0, this many fingerprints, and as
 // many changes that take the command back.
-#[tactic(auto, unfolding(crate::specs::Reading::halfway_at, crate::specs::Reading::many_at))]
-fn read_halfway(alloc: Global, bytes: &[u8]) -> Result<(Option<HalfwayPart>, &[u8]), DecodeFault>
-    ensures { Gives (λ x. (halfway_of x.0, x.1.now)) result (reads.halfway_at bytes.now) }
+#[tactic(auto, unfolding(crate::specs::Journals::halfway_at, crate::specs::Journals::many_at))]
+fn read_halfway(alloc: Global, bytes: &[u8]) -> Result<(Option<HalfwayPart>, &[u8]), JournalFault>
+    ensures { Gives (λ x. (halfway_of x.0, x.1.now)) result (halfway_at bytes.now) }
 {
     match bytes {
         [0, rest @ ..] => Ok((None, rest)),
         [1, rest @ ..] => {
             let (count, rest) = read_number(rest)?;
             if count == 0 {
-                return Err(DecodeFault::JournalInvalid);
+                return Err(JournalFault::JournalInvalid);
             }
             let (fingerprints, rest) = read_digests(alloc, count, rest)?;
             let (back, rest) = read_changes(alloc, count, rest)?;
             Ok((Some(HalfwayPart { fingerprints, back }), rest))
         }
-        _ => Err(DecodeFault::JournalInvalid),
+        _ => Err(JournalFault::JournalInvalid),
     }
 }
 
 // The version, by the first eight bytes. JournalInvalid if they are no known heading.
-#[tactic(auto, unfolding(crate::specs::Reading::heading_at))]
-fn read_heading(bytes: &[u8]) -> Result<(Version, &[u8]), DecodeFault>
-    ensures { Gives (λ x. (x.0, x.1.now)) result (reads.heading_at bytes.now) }
+#[tactic(auto, unfolding(crate::specs::Journals::heading_at))]
+fn read_heading(bytes: &[u8]) -> Result<(Version, &[u8]), JournalFault>
+    ensures { Gives (λ x. (x.0, x.1.now)) result (heading_at bytes.now) }
 {
     let (front, rest) = read_block(bytes, 8)?;
     if front == heading(Version::One) {
@@ -186,31 +186,22 @@ fn read_heading(bytes: &[u8]) -> Result<(Version, &[u8]), DecodeFault>
     } else if front == heading(Version::Two) {
         Ok((Version::Two, rest))
     } else {
-        Err(DecodeFault::JournalInvalid)
+        Err(JournalFault::JournalInvalid)
     }
 }
 
-// The cursor, the number of undos among the entries. A journal of version 1 has no cursor: nothing is read, and
-// `read_parts` doesn't use the 0.
-#[tactic(auto, unfolding(crate::specs::Reading::cursor_at))]
-fn read_cursor(version: Version, bytes: &[u8]) -> Result<(u64, &[u8]), DecodeFault>
-    ensures { Gives (λ x. (x.0, x.1.now)) result (reads.cursor_at version bytes.now) }
-{
-    match version {
-        Version::One => Ok((0, bytes)),
-        Version::Two => read_number(bytes),
-    }
-}
-
-// The whole journal, from its bytes without the digest at the end. In version 1 all entries are undos. JournalInvalid
-// if the cursor is above the number of entries, or if bytes are left.
-#[tactic(auto, unfolding(crate::specs::Reading::parts_at))]
-fn read_parts(alloc: Global, bytes: &[u8]) -> Result<Journal, DecodeFault>
-    ensures { Gives journal_of result (reads.parts_at bytes.now) }
+// The whole journal, from its bytes without the digest at the end. Version 1 has no cursor: all its entries are undos.
+// JournalInvalid if the cursor is above the number of entries, or if bytes are left.
+#[tactic(auto, unfolding(crate::specs::Journals::parts_at, crate::specs::Journals::cursor_at))]
+fn read_parts(alloc: Global, bytes: &[u8]) -> Result<Journal, JournalFault>
+    ensures { Gives journal_of result (parts_at bytes.now) }
 {
     let (version, rest) = read_heading(bytes)?;
     let (fingerprint, rest) = read_digest(rest)?;
-    let (read, rest) = read_cursor(version, rest)?;
+    let (read, rest) = match version {
+        Version::One => (0, rest),
+        Version::Two => read_number(rest)?,
+    };
     let (count, rest) = read_number(rest)?;
     let (entries, rest) = read_entries(alloc, count, rest)?;
     let (halfway, rest) = read_halfway(alloc, rest)?;
@@ -219,7 +210,7 @@ fn read_parts(alloc: Global, bytes: &[u8]) -> Result<Journal, DecodeFault>
         Version::Two => read,
     };
     if cursor > count || !rest.is_empty() {
-        return Err(DecodeFault::JournalInvalid);
+        return Err(JournalFault::JournalInvalid);
     }
     Ok(Journal {
         version,
@@ -242,14 +233,15 @@ pub fn is_sealed(bytes: &[u8]) -> bool
 
 /// The journal that the bytes spell. If they don't end with their digest, nothing is read or allocated. Otherwise
 /// memory is taken only for bytes that are there.
-pub fn decode(alloc: Global, bytes: &[u8]) -> Result<Journal, DecodeFault>
+pub fn decode(alloc: Global, bytes: &[u8]) -> Result<Journal, JournalFault>
     ensures found { IfOk result (λ journal. Spells bytes.now (journal_of journal)) }
     ensures only { (j : Defined) → Spells bytes.now j
         → MatchResult result (λ journal. journal_of journal ≡ j) (λ fault. fault ≡ Memory) }
+    ensures refused { IfErr result (IsRefusal bytes.now) }
     ensures unsealed { ¬ (IsSealed bytes.now) → result ≡ Err JournalInvalid }
 {
     if !is_sealed(bytes) {
-        return Err(DecodeFault::JournalInvalid);
+        return Err(JournalFault::JournalInvalid);
     }
     Ok(decode_untested(alloc, bytes)?.journal)
 }
@@ -266,12 +258,12 @@ pub struct Untested<'a> {
 
 /// The journal that the bytes spell if they end with their digest. The caller tests that, because it can compute it
 /// side by side with other digests. Memory is taken as in [`decode`], but also for bytes with a wrong digest.
-pub fn decode_untested(alloc: Global, bytes: &[u8]) -> Result<Untested<'_>, DecodeFault>
+pub fn decode_untested(alloc: Global, bytes: &[u8]) -> Result<Untested<'_>, JournalFault>
     ensures found { IfOk result (IsUntested bytes.now) }
-    ensures invalid { result ≡ Err JournalInvalid → (j : Defined) → Spells bytes.now j → ⊥ }
+    ensures refused { IfErr result (IsRefusal bytes.now) }
 {
     let Some((body, digest)) = bytes.split_last_chunk::<16>() else {
-        return Err(DecodeFault::JournalInvalid);
+        return Err(JournalFault::JournalInvalid);
     };
     let journal = read_parts(alloc, body)?;
     Ok(Untested {

@@ -1,17 +1,14 @@
 //! Encoding a journal. `encode` writes a settled one. For an action, `begin` writes the halfway one up to its entries
 //! while they are as before the action, and `finish_both` writes the rest of it and the settled one. The `append_`
 //! functions each append one part to `out`; `Appends`: exactly these bytes are added if the call returns Ok.
-ghost use Rattle.std.specs.Prelude.{◌≡◌, ◌≤◌, ◌+◌, ◌∷◌, ◌++◌, length, flat_map, OnOk, IfOk, IfSome, IsTrue, Some};
+ghost use Rattle.std.specs.Prelude.{◌≡◌, ◌∷◌, ◌++◌, length, flat_map, OnOk, IfOk, IfSome, IsTrue, Some};
 ghost use Rattle.std.specs.Int.{w64, to_le_bytes};
 ghost use Rattle.std.specs.List.{concat, AllByRecursion};
 ghost use Rattle.md5.specs.Md5.{md5};
 ghost use Rattle.par2_spec.specs.Answers.{Appends};
-ghost use Rattle.par2_spec.specs.Names.{is_name};
-ghost use Rattle.par2_spec.specs.Folders.{behind_length};
-ghost use Rattle.par2_spec.specs.Journals as journals;
-ghost use Rattle.par2_files.specs.ChangeViews.{change_of};
-ghost use Rattle.par2_journal_format.specs.Fronts.{Begins, Continues, Finishes};
-ghost use Rattle.par2_journal_format.specs.JournalViews.{changes_in, halfway_from, journal_from, part_from};
+ghost use Rattle.par2_spec.specs.Prelude.{is_name, behind_length, IsChange, IsDigest, IsEntry, IsFileBytes, IsHalfwayPart, Spells, change_bytes, entry_bytes, halfway_bytes, name_bytes};
+ghost use Rattle.par2_files.specs.Folders.{change_of};
+ghost use Rattle.par2_journal_format.specs.Journals.{Begins, Continues, Finishes, changes_in, journal_from, part_from};
 
 use crate::journal::heading;
 use crate::{HalfwayPartView, JournalView};
@@ -30,7 +27,7 @@ fn append_number(out: &mut Vec<u8>, number: u64) -> Result<()>
 
 // Appends a file name: its length in one byte, then its bytes. For the prover: the name is a valid one.
 fn append_name(out: &mut Vec<u8>, name: &Name) -> Result<()>
-    ensures bytes { Appends (journals.name_bytes name.now) out.old out.new result }
+    ensures bytes { Appends (name_bytes name.now) out.old out.new result }
     ensures name { IsTrue (is_name name.now) }
 {
     let string = name.as_str();
@@ -41,7 +38,7 @@ fn append_name(out: &mut Vec<u8>, name: &Name) -> Result<()>
 // Appends the bytes of a file: their number in eight bytes, then the bytes. For the prover: their number fits.
 fn append_bytes(out: &mut Vec<u8>, bytes: &Bytes) -> Result<()>
     ensures bytes { Appends (behind_length bytes.now) out.old out.new result }
-    ensures fits { journals.IsFileBytes bytes.now }
+    ensures fits { IsFileBytes bytes.now }
 {
     let content = bytes.as_slice();
     append_number(out, content.len() as u64)?;
@@ -50,7 +47,7 @@ fn append_bytes(out: &mut Vec<u8>, bytes: &Bytes) -> Result<()>
 
 // Appends what each change begins with: its kind in one byte (1 write, 2 replace, 3 rename, 4 remove), and its name.
 fn append_kind_and_name(out: &mut Vec<u8>, kind: u8, name: &Name) -> Result<()>
-    ensures bytes { Appends (kind ∷ journals.name_bytes name.now) out.old out.new result }
+    ensures bytes { Appends (kind ∷ name_bytes name.now) out.old out.new result }
     ensures name { OnOk result (IsTrue (is_name name.now)) }
 {
     out.push(kind)?;
@@ -59,8 +56,8 @@ fn append_kind_and_name(out: &mut Vec<u8>, kind: u8, name: &Name) -> Result<()>
 
 // Appends one change: its kind, its name, and the bytes or the new name. `IsChange`: a journal can hold it.
 fn append_change(out: &mut Vec<u8>, change: &Change) -> Result<()>
-    ensures bytes { Appends (journals.change_bytes (change_of change.now)) out.old out.new result }
-    ensures change { OnOk result (journals.IsChange (change_of change.now)) }
+    ensures bytes { Appends (change_bytes (change_of change.now)) out.old out.new result }
+    ensures change { OnOk result (IsChange (change_of change.now)) }
 {
     match change {
         Change::Write(name, bytes) => {
@@ -81,9 +78,8 @@ fn append_change(out: &mut Vec<u8>, change: &Change) -> Result<()>
 
 // Appends changes one after the other, without their number, which the caller has appended.
 fn append_changes(out: &mut Vec<u8>, changes: &[Change]) -> Result<()>
-    ensures bytes { let changes = changes_in changes.now in
-        Appends (flat_map journals.change_bytes changes) out.old out.new result }
-    ensures changes { OnOk result (journals.IsEntry (changes_in changes.now)) }
+    ensures each { Appends (flat_map change_bytes (changes_in changes.now)) out.old out.new result }
+    ensures changes { OnOk result (IsEntry (changes_in changes.now)) }
 {
     for change in changes {
         append_change(out, change)?;
@@ -93,8 +89,8 @@ fn append_changes(out: &mut Vec<u8>, changes: &[Change]) -> Result<()>
 
 // Appends entries of the history, the oldest first: for each, the number of its changes, then the changes.
 fn append_entries(out: &mut Vec<u8>, entries: &[Changes]) -> Result<()>
-    ensures bytes { Appends (flat_map journals.entry_bytes entries.now) out.old out.new result }
-    ensures entries { OnOk result (AllByRecursion journals.IsEntry entries.now) }
+    ensures bytes { Appends (flat_map entry_bytes entries.now) out.old out.new result }
+    ensures entries { OnOk result (AllByRecursion IsEntry entries.now) }
 {
     for entry in entries {
         append_number(out, entry.len() as u64)?;
@@ -107,7 +103,7 @@ fn append_entries(out: &mut Vec<u8>, entries: &[Changes]) -> Result<()>
 #[tactic(auto, using(std::proofs::lemmas::List::Concat::concat_is))]
 fn append_digests(out: &mut Vec<u8>, digests: &[[u8; 16]]) -> Result<()>
     ensures bytes { Appends (concat digests.now) out.old out.new result }
-    ensures digests { AllByRecursion journals.IsDigest digests.now }
+    ensures digests { AllByRecursion IsDigest digests.now }
 {
     out.extend_from_slice(digests.as_flattened())
 }
@@ -115,11 +111,8 @@ fn append_digests(out: &mut Vec<u8>, digests: &[[u8; 16]]) -> Result<()>
 // Appends the halfway part: a 0 if there is none, otherwise a 1, the number of changes, the fingerprint after each
 // change of the command, and the changes that take it back.
 fn append_halfway(out: &mut Vec<u8>, halfway: Option<&HalfwayPartView<'_>>) -> Result<()>
-    requires some { IfSome halfway (λ h. 1 ≤ length h.now.back.now) }
-    requires each { IfSome halfway (λ h. length h.now.fingerprints.now ≡ length h.now.back.now) }
-    ensures bytes { let part = part_from halfway.entry in
-        Appends (journals.halfway_bytes part) out.old out.new result }
-    ensures halfway { OnOk result (IfSome (part_from halfway.entry) journals.IsHalfwayPart) }
+    ensures bytes { Appends (halfway_bytes (part_from halfway.entry)) out.old out.new result }
+    ensures halfway { OnOk result (IfSome (part_from halfway.entry) IsHalfwayPart) }
 {
     let Some(halfway) = halfway else {
         return Ok(out.push(0)?);
@@ -131,9 +124,8 @@ fn append_halfway(out: &mut Vec<u8>, halfway: Option<&HalfwayPartView<'_>>) -> R
 }
 
 /// The first step of an action's journals: the bytes of the halfway one up to its entries, for [`finish_both`].
-#[tactic(auto, unfolding(crate::specs::Fronts::front_bytes))]
+#[tactic(auto, unfolding(crate::specs::Journals::front_bytes))]
 pub fn begin(alloc: Global, parts: &JournalView<'_>) -> Result<Vec<u8>>
-    requires { parts.now.cursor ≤ length parts.now.entries.now + length parts.now.newer.now }
     ensures { IfOk result (λ front. Begins front.items (journal_from parts.now)) }
 {
     let mut out = Vec::new(alloc);
@@ -148,17 +140,14 @@ pub fn begin(alloc: Global, parts: &JournalView<'_>) -> Result<Vec<u8>>
 
 // All but the digest of a journal: its front, which `begin` wrote, and its halfway part. `Continues`: this holds for
 // each journal that the front begins.
-#[tactic(auto, unfolding(par2_spec::specs::Journals::journal_bytes, crate::specs::Fronts::front_bytes))]
-fn body(front: Vec<u8>, halfway: Option<&HalfwayPartView<'_>>) -> Result<Vec<u8>>
-    requires some { IfSome halfway (λ h. 1 ≤ length h.now.back.now) }
-    requires each { IfSome halfway (λ h. length h.now.fingerprints.now ≡ length h.now.back.now) }
+#[tactic(auto, unfolding(par2_spec::specs::Journals::journal_bytes, crate::specs::Journals::front_bytes))]
+fn body(mut front: Vec<u8>, halfway: Option<&HalfwayPartView<'_>>) -> Result<Vec<u8>>
     ensures { IfOk result (λ body. Continues front.items (part_from halfway.entry) body.items) }
 {
-    let mut out = front;
     // A full vector isn't doubled for one byte and the digest.
-    out.reserve_exact(17)?;
-    append_halfway(&mut out, halfway)?;
-    Ok(out)
+    front.reserve_exact(17)?;
+    append_halfway(&mut front, halfway)?;
+    Ok(front)
 }
 
 // The last step of a journal: appends `digest`, which the caller computed as the MD5 of all bytes before it.
@@ -172,8 +161,7 @@ fn append_digest(out: &mut Vec<u8>, digest: [u8; 16]) -> Result<()>
 
 /// The bytes of the settled journal with these parts, its digest included. Err if memory runs out.
 pub fn encode(alloc: Global, parts: &JournalView<'_>) -> Result<Vec<u8>>
-    requires { parts.now.cursor ≤ length parts.now.entries.now + length parts.now.newer.now }
-    ensures { IfOk result (λ bytes. journals.Spells bytes.items (journal_from parts.now)) }
+    ensures { IfOk result (λ bytes. Spells bytes.items (journal_from parts.now)) }
 {
     let mut bytes = body(begin(alloc, parts)?, None)?;
     let digest = Md5::digest(&bytes);
@@ -198,12 +186,9 @@ pub fn finish_both(
     halfway: &HalfwayPartView<'_>,
     after: &JournalView<'_>,
 ) -> Result<JournalBytes>
-    requires halfway_some { 1 ≤ length halfway.now.back.now }
-    requires halfway_each { length halfway.now.fingerprints.now ≡ length halfway.now.back.now }
-    requires cursor { after.now.cursor ≤ length after.now.entries.now + length after.now.newer.now }
-    ensures halfway { IfOk result (λ buffers.
-        Finishes front.items (Some (halfway_from halfway.now)) buffers.halfway.items) }
-    ensures after { IfOk result (λ t. journals.Spells t.after.items (journal_from after.now)) }
+    ensures halfway { IfOk result
+        (λ both. Finishes front.items (part_from (Some halfway.entry)) both.halfway.items) }
+    ensures after { IfOk result (λ both. Spells both.after.items (journal_from after.now)) }
 {
     let mut halfway = body(front, Some(halfway))?;
     let mut after = body(begin(alloc, after)?, None)?;

@@ -1,6 +1,6 @@
 -- The names that proofs of this crate take from elsewhere.
 
-pub use Rattle.std.proofs.Common.{Bor, List, None, Option, Some, [], add-one, ap, append-nil, append_assoc, ap₂, arith, below_more, drop, get_or, get_or-set_other, get_or-set_same, inl, inr, length, length-append, length-drop, length-set, map, min, nat_lt, refl, replicate, rules, slice_index, subst, suc, sym, take, true, zero, ℕ, ◌%◌, ◌*◌, ◌++◌, ◌+◌, ◌-◌, ◌/◌, ◌<◌, ◌^◌, ◌∙◌, ◌∷◌, ◌≡◌, ◌≢◌, ◌≤◌}
+pub use Rattle.std.proofs.Common.{Bor, List, None, Option, Some, [], add-one, ap, append-nil, append_assoc, ap₂, arith, below_more, drop, false, get_or, get_or-set_other, get_or-set_same, inl, inr, length, length-append, length-drop, length-set, map, min, nat_lt, refl, replicate, rules, slice_index, subst, suc, sym, take, true, zero, ℕ, ◌%◌, ◌*◌, ◌++◌, ◌+◌, ◌-◌, ◌/◌, ◌<◌, ◌^◌, ◌∙◌, ◌∷◌, ◌≡◌, ◌≢◌, ◌≤◌}
 pub use Rattle.std.proofs.Math.ListN.{set}
 pub use Rattle.std.proofs.lemmas.Bool.{cases_eq, cases_lt}
 pub use Rattle.std.proofs.lemmas.Grind.{and-not_self, common_steps}
@@ -8,18 +8,12 @@ pub use Rattle.std.proofs.lemmas.List.{drop-append-le, drop-drop, drop-map, drop
 pub use Rattle.std.proofs.lemmas.Nat.{and_assoc, and_comm, from_le_bytes-to_le_bytes_4, or_disjoint}
 pub use Rattle.std.proofs.lemmas.Simd.{Each1-get_or, below_from_Fits, get_or-replicate, get_or-zip2, length-zip2, shifts_fit_splat}
 pub use Rattle.std.specs.Int.{bit_not, to_le_bytes, w32, w64}
+pub use Rattle.std.specs.Option.{is_some}
 pub use Rattle.std.specs.Prelude.{bit_and, bit_or, bit_xor, slice_index_or}
 pub use Rattle.md5.specs.Md5.{add32, add_state, f_fn, g_fn, h_fn, i_fn, padded_message, padding, round, step_constants, step_fn, step_shifts, word_at, word_place}
 unfoldable pub use Rattle.md5.specs.Md5.{block_words, compress, digest_bytes, hash_after, md5, rounds}
-pub use Rattle.par2_md5_lanes.specs.Feeds.{at_hand, bytes_left}
-unfoldable pub use Rattle.par2_md5_lanes.specs.Feeds.{hash_behind}
-pub use Rattle.par2_md5_lanes.specs.Lanes.{Have, HaveLanes, four_words_at, lane, lane_words}
-pub use Rattle.par2_md5_lanes.specs.Messages.{HasAbsorbed, message_of, part_bytes}
-pub use Rattle.par2_md5_lanes.specs.Pendings.{IsBegun, TakeAll, TakesAll, bytes_to_absorb}
-pub use Rattle.par2_md5_lanes.specs.Tails.{tail_len, tail_of}
-pub use Rattle.par2_md5_lanes.specs.Tasks.{HasBlocks, HasEnded, HasTaken, HaveBlocks, AllProgress, EndsIn, EndsInWith, Progresses, work, work_of, works}
-pub use Rattle.par2_md5_lanes.specs.Buffers.{buffer_at, buffers_of}
-pub use Rattle.par2_md5_lanes.specs.Digests.{digest_at}
+pub use Rattle.par2_md5_lanes.specs.Messages.{at_hand, bytes_left, HasAbsorbed, message_of, part_bytes, IsBegun, TakeAll, bytes_to_absorb, tail_len, tail_of, HasBlocks, HasEnded, HasTaken, AllProgress, EndsIn, EndsInWith, Progresses, work, work_of, buffer_at, buffers_of, digest_at, Have, HaveLanes, four_words_at, lane, lane_words}
+unfoldable pub use Rattle.par2_md5_lanes.specs.Messages.{hash_behind}
 pub use Rattle.par2_md5_lanes.specs.declared.midstate.Midstate.{Midstate}
-pub use Rattle.par2_md5_lanes.specs.declared.pending.Pending.{Pending}
+pub use Rattle.par2_md5_lanes.specs.declared.tasks.Pending.{Pending}
 pub use Rattle.par2_md5_lanes.specs.declared.tasks.LaneTask.{LaneTask}

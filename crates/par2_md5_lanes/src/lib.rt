@@ -8,27 +8,18 @@
 ghost use Rattle.std.specs.Prelude.{◌≡◌, ◌≤◌, ◌<◌, ◌+◌, ◌*◌, ◌/◌, ℕ, length, take, drop, slice_index};
 ghost use Rattle.std.specs.Int.{to_le_bytes};
 ghost use Rattle.md5.specs.Md5.{digest_bytes, hash_after, md5, padded_message};
-ghost use Rattle.par2_md5_lanes.specs.Digests.{digest_at};
-ghost use Rattle.par2_md5_lanes.specs.Buffers.{buffer_at};
-ghost use Rattle.par2_md5_lanes.specs.Lanes.{HaveLanes};
+ghost use Rattle.par2_md5_lanes.specs.Messages.{HaveLanes, buffer_at, digest_at};
 
 mod blocks;
-mod feeds;
-mod lanes;
 mod midstate;
-mod padding;
-mod pending;
-mod quads;
-mod steps;
 mod tasks;
 
-use blocks::{Hashes, Sixteen};
+use blocks::{HashState, Hashes, Sixteen};
 use md5::{Digest, Md5};
+use midstate::tails_of_windows;
 pub use midstate::{Midstate, Part};
-use padding::{tail_blocks, tails_of_windows};
-pub use pending::{Pending, absorb_each, buffer_digests};
 use std::simd::prelude::*;
-use steps::HashState;
+pub use tasks::{Pending, absorb_each, buffer_digests};
 
 /// The largest number of messages that are digested side by side.
 pub const LANES: usize = 16;
@@ -86,7 +77,8 @@ fn digests<H: Hashes>(windows: &[&[u8]; LANES], count: usize, len: usize) -> [[u
     let tails = tails_of_windows(windows, len);
     let initial = Midstate::new().hash;
     let before = H::from_hashes(&[initial; LANES]).absorbed(windows, len / 64);
-    let hashes = before.absorbed(&as_buffers(&tails), tail_blocks(len));
+    // The padding has at least nine bytes.
+    let hashes = before.absorbed(&as_buffers(&tails), (len % 64 + 72) / 64);
     let mut digests = [[0; 16]; LANES];
     for k in 0..count {
         digests[k] = digest_of(hashes.in_lane(k));

@@ -1,20 +1,15 @@
 //! The state of MD5 after the first bytes of a message: `new`, then `absorb` any number of times, and `digest` at any
-//! time.
+//! time. The tail of a message is its bytes after the whole blocks, and then its padding: one block or two.
 
-ghost use Rattle.std.specs.Prelude.{◌≡◌, ◌++◌, ◌-◌, ◌%◌, ◌^◌, [], ◌∷◌, replicate, ℕ, List, length};
+ghost use Rattle.std.specs.Prelude.{◌≡◌, ◌++◌, ◌-◌, ◌%◌, ◌^◌, [], ◌∷◌, replicate, ℕ, List, length, ◌≤◌, ◌<◌, ◌*◌, ◌/◌, take, drop};
 ghost use Rattle.md5.specs.Md5.{md5, padding};
-ghost use Rattle.par2_md5_lanes.specs.Messages.{HasAbsorbed, message_of, part_bytes};
+ghost use Rattle.par2_md5_lanes.specs.Messages.{HasAbsorbed, message_of, part_bytes, tail_len, tail_of, buffer_at, digest_at};
 
-use crate::blocks::hashed;
-use crate::digest_of;
-use crate::feeds::Feed;
+use crate::blocks::{Feed, hashed};
+use crate::{LANES, digest_of};
 
-// The first bytes of a padding: a bit 1, then zeros (RFC 1321, 3.1).
-const PADDING: [u8; 64] = [
-    0x80, 0, 0, 0, 0, 0, 0, 0, 0, 0, 0, 0, 0, 0, 0, 0, 0, 0, 0, 0, 0, 0, 0, 0, 0, 0, 0, 0, 0, 0, 0,
-    0, 0, 0, 0, 0, 0, 0, 0, 0, 0, 0, 0, 0, 0, 0, 0, 0, 0, 0, 0, 0, 0, 0, 0, 0, 0, 0, 0, 0, 0, 0, 0,
-    0,
-];
+// The zeros of a padding.
+static ZEROS: [u8; 64] = [0; 64];
 
 /// A part of a message: bytes, or a length as eight bytes, the low one first.
 #[derive(Clone, Copy, Drop)]
@@ -34,40 +29,29 @@ pub struct Midstate {
     pub(crate) length: u64,
 }
 
-// The number of bytes of the part.
-fn part_len(part: &Part) -> usize
-    ensures { result ≡ length (part_bytes part.now) }
-{
-    match part {
-        Part::Length(_) => 8,
-        Part::Bytes(bytes) => bytes.len(),
-    }
-}
-
 /// The number of bytes of all parts together, modulo 2^64.
 pub(crate) fn length_of(parts: &[Part]) -> u64
     ensures { result ≡ length (message_of parts.now) % 2 ^ 64 }
 {
     let mut length = 0u64;
     for part in parts {
-        length = length.wrapping_add(part_len(part) as u64);
+        let len = match part {
+            Part::Length(_) => 8,
+            Part::Bytes(bytes) => bytes.len() as u64,
+        };
+        length = length.wrapping_add(len);
     }
     length
 }
 
-// The padding of a message of `length` bytes without its last eight bytes, which are the length (RFC 1321, 3.1).
-fn padding_prefix(length: u64) -> &'static [u8]
-    ensures { result.now ≡ 0x80 ∷ replicate ((119 - length % 64) % 64) 0 }
-{
-    &PADDING[..((119 - length % 64) % 64) as usize + 1]
-}
-
 /// The padding of a message of this many bytes, modulo 2^64, as parts (RFC 1321, 3.1 and 3.2).
-pub(crate) fn ending(length: u64) -> [Part<'static>; 2]
+pub(crate) fn ending(length: u64) -> [Part<'static>; 3]
     ensures { (n : ℕ) → n % 2 ^ 64 ≡ length → message_of result ≡ padding n }
 {
+    let zeros = &ZEROS[..((119 - length % 64) % 64) as usize];
     [
-        Part::Bytes(padding_prefix(length)),
+        Part::Bytes(&[0x80]),
+        Part::Bytes(zeros),
         Part::Length(length.wrapping_mul(8)),
     ]
 }
@@ -105,4 +89,28 @@ impl Midstate {
         padded.absorb(&ending(self.length));
         digest_of(padded.hash)
     }
+}
+
+// The tail of a window, at most two blocks, followed by zeros.
+fn tail_of(window: &[u8]) -> [u8; 128]
+    ensures { take (tail_len (length window.now)) result ≡ tail_of (length window.now) window.now }
+{
+    let padding = ending(window.len() as u64);
+    let mut tail = [0; 128];
+    Feed::new(&window[window.len() / 64 * 64..], &padding).fill(&mut tail);
+    tail
+}
+
+/// The tails of the windows of `len` bytes, each at the beginning of its array.
+#[tactic(auto, using(crate::proofs::LaneLaws::writes, crate::proofs::LaneLaws::bytes_here))]
+pub(crate) fn tails_of_windows(windows: &[&[u8]; LANES], len: usize) -> [[u8; 128]; LANES]
+    requires within { (k : ℕ) → k < 16 → length (buffer_at windows.now k) ≡ len }
+    ensures { (k : ℕ) → k < 16
+        → take (tail_len len) (digest_at result k) ≡ tail_of len (buffer_at windows.now k) }
+{
+    let mut tails = [[0; 128]; LANES];
+    for k in 0..LANES {
+        tails[k] = tail_of(windows[k]);
+    }
+    tails
 }

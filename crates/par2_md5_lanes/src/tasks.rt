@@ -1,18 +1,24 @@
 //! Messages that are absorbed side by side until each has its last hash value. `finish_all` finishes one message after
 //! the other: `go_on` absorbs blocks of all messages while this one and a later one have not ended, and `finish`
 //! absorbs the rest of this one alone.
+//!
+//! `absorb_each` makes such a task of each state and its parts, and `buffer_digests` computes the digests of any number
+//! of buffers, up to sixteen side by side.
 
-ghost use Rattle.std.specs.Prelude.{◌≡◌, ◌≤◌, ◌<◌, ◌*◌, ◌-◌, ◌^◌, ℕ, List, IsTrue, length, take, drop, get_or};
-ghost use Rattle.par2_md5_lanes.specs.Feeds.{hash_behind};
-ghost use Rattle.par2_md5_lanes.specs.Lanes.{Have, HaveLanes};
-ghost use Rattle.par2_md5_lanes.specs.Tasks.{work, works, HasBlocks, HasEnded, AllProgress, Progresses, EndsIn};
-ghost use Rattle.par2_md5_lanes.specs.Buffers.{buffer_at};
-ghost use Rattle.par2_md5_lanes.specs.Digests.{digest_at};
+ghost use Rattle.std.specs.Prelude.{◌≡◌, ◌≤◌, ◌<◌, ◌*◌, ◌-◌, ◌^◌, ℕ, List, length, take, drop, get_or, ◌++◌, [], None, map, IfOk, OnOk};
+ghost use Rattle.std.specs.List.{All};
+ghost use Rattle.par2_md5_lanes.specs.Messages.{hash_behind, bytes_left, work, HasBlocks, HasEnded, AllProgress, Progresses, EndsIn, HasTaken, buffer_at, buffers_of, digest_at, HasAbsorbed, message_of, bytes_to_absorb, Absorb, IsBegun, TakeAll, Have, HaveLanes};
 ghost use Rattle.par2_md5_lanes.specs.declared.tasks.LaneTask.{LaneTask};
+ghost use Rattle.md5.specs.Md5.{md5};
+ghost use Rattle.par2_md5_lanes.specs.declared.midstate.Midstate.{Midstate};
+ghost use Rattle.par2_md5_lanes.specs.declared.tasks.Pending.{Pending};
 
-use crate::blocks::{Hashes, hashed};
-use crate::feeds::Feed;
+use crate::blocks::{Feed, HashState, Hashes, Sixteen, hashed};
+use crate::midstate::{Midstate, Part, length_of};
 use crate::{LANES, as_buffers};
+use std::alloc::{AllocError, Global};
+use std::array;
+use std::simd::prelude::*;
 
 // At least as many blocks as any message has.
 const MOST_BLOCKS: usize = usize::MAX / 64;
@@ -27,18 +33,6 @@ pub(crate) struct LaneTask<'a> {
 }
 
 impl<'a> LaneTask<'a> {
-    // A number of blocks that can be taken without a copy: the feed's, or any for a message that has ended, which never
-    // limits the batch.
-    fn blocks_at_hand(&self) -> usize
-        ensures blocks { HasBlocks self.now result }
-        ensures room { result * 64 < 2 ^ 64 }
-    {
-        match self.hash {
-            Some(_) => MOST_BLOCKS,
-            None => self.feed.blocks_at_hand(),
-        }
-    }
-
     // Takes `count` blocks without a copy, or returns `others` as blocks for the idle lane if the message has ended.
     fn take(&mut self, count: usize, others: &'a [u8]) -> &'a [u8]
         requires some { 0 < count }
@@ -83,15 +77,17 @@ impl<'a> LaneTask<'a> {
     }
 }
 
-// The number of blocks that can be taken of each message without a copy: the least of the messages' numbers.
+// The number of blocks that can be taken of each message without a copy: the least of the feeds' numbers. A message
+// that has ended doesn't limit it.
 fn batch_of(tasks: &[LaneTask]) -> usize
-    ensures blocks { (k : ℕ) (none : LaneTask) → k < length tasks.now
-        → HasBlocks (get_or tasks.now k none) result }
+    ensures blocks { All (λ task. HasBlocks task result) tasks.now }
     ensures room { result * 64 < 2 ^ 64 }
 {
     let mut count = MOST_BLOCKS;
     for task in tasks {
-        count = count.min(task.blocks_at_hand());
+        if task.hash.is_none() {
+            count = count.min(task.feed.blocks_at_hand());
+        }
     }
     count
 }
@@ -102,10 +98,9 @@ fn take_all<'a>(tasks: &mut [LaneTask<'a>], batch: usize, unfinished: usize) -> 
     // Each message has this many blocks, and `unfinished` is one that has not ended.
     requires some { 0 < batch }
     requires few { length tasks.old ≤ 16 }
-    requires blocks { (k : ℕ) (none : LaneTask) → k < length tasks.old
-        → HasBlocks (get_or tasks.old k none) batch }
+    requires blocks { All (λ task. HasBlocks task batch) tasks.old }
     requires within { unfinished < length tasks.old }
-    requires left { 0 < get_or (works tasks.old) unfinished 0 }
+    requires left { 0 < get_or (map work tasks.old) unfinished 0 }
     // Each message ends in the same hash value as before, once its lane has absorbed these blocks.
     ensures progress { (hash : ℕ → List ℕ) → AllProgress tasks.old tasks.new
         hash (λ k. hash_behind (hash k) (buffer_at result k) batch) 1 }
@@ -132,26 +127,17 @@ fn advance_all<H: Hashes>(tasks: &mut [LaneTask], blocks: &mut [[u8; 64]; LANES]
     }
 }
 
-// Whether message k and at least one after it have not ended.
-fn has_company(tasks: &[LaneTask], k: usize) -> bool
-    requires { k < length tasks.now }
-    ensures { IsTrue result → 0 < get_or (works tasks.now) k 0 }
-{
-    tasks[k].hash.is_none() && tasks[k + 1..].iter().any(|task| task.hash.is_none())
-}
-
 // Absorbs as many blocks at a time as all messages have without a copy, or else a copied block of each, until message k
 // or all messages after it have ended.
-fn go_on<H: Hashes>(tasks: &mut [LaneTask], state: H, k: usize) -> H
+fn go_on<H: Hashes>(tasks: &mut [LaneTask], mut state: H, k: usize) -> H
     // Message k is one of the messages in lanes.
     requires lanes { HaveLanes (length tasks.old) H.count }
     requires within { k < length tasks.old }
     // From the new hash values, each message ends as it would have from the old ones.
     ensures { AllProgress tasks.old tasks.new (λ k. H.at k state) (λ k. H.at k result) 0 }
 {
-    let mut state = state;
     let mut blocks = [[0; 64]; LANES];
-    while has_company(tasks, k) {
+    while tasks[k].hash.is_none() && tasks[k + 1..].iter().any(|task| task.hash.is_none()) {
         let batch = batch_of(tasks);
         if batch > 0 {
             let buffers = take_all(tasks, batch, k);
@@ -167,15 +153,146 @@ fn go_on<H: Hashes>(tasks: &mut [LaneTask], state: H, k: usize) -> H
 /// Absorbs all blocks of the messages, after `state`. The blocks of a message go beside others while there are any. The
 /// rest goes by itself, which is faster than with all lanes.
 #[tactic(auto, using(crate::proofs::LaneLaws::writes))]
-pub(crate) fn finish_all<H: Hashes>(tasks: &mut [LaneTask], state: H)
+pub(crate) fn finish_all<H: Hashes>(tasks: &mut [LaneTask], mut state: H)
     requires { HaveLanes (length tasks.old) H.count }
     ensures { (k : ℕ) (none : LaneTask) (last rest : List ℕ) → k < length tasks.old
         → EndsIn (get_or tasks.old k none) (H.at k state) last rest
         → HasEnded (get_or tasks.new k none) last rest }
 {
-    let mut state = state;
     for k in 0..tasks.len() {
         state = go_on(tasks, state, k);
         tasks[k].finish(state.in_lane(k));
     }
+}
+
+/// A state, and the parts that it absorbs next.
+#[derive(Drop)]
+pub struct Pending<'a> {
+    pub state: Midstate,
+    pub parts: Vec<Part<'a>>,
+}
+
+// The hash values of the states before their parts, that of state k in lane k. Other lanes have no meaning.
+#[tactic(auto, using(crate::proofs::LaneLaws::writes))]
+fn hashes_of<H: Hashes>(pendings: &[Pending]) -> H
+    requires { HaveLanes (length pendings.now) H.count }
+    ensures { (k : ℕ) (none : Pending) → k < length pendings.now
+        → H.at k result ≡ (get_or pendings.now k none).state.hash }
+{
+    let mut hashes = [[0; 4]; LANES];
+    for (k, pending) in pendings.iter().enumerate() {
+        hashes[k] = pending.state.hash;
+    }
+    H::from_hashes(&hashes)
+}
+
+// The task of lane k: to absorb the bytes after the whole blocks of state k, and then its parts. A lane without a state
+// has no bytes to absorb.
+fn task<'a>(pendings: &'a [Pending<'a>], k: usize) -> LaneTask<'a>
+    ensures open { result.hash ≡ None }
+    ensures bytes { (none : Pending) → k < length pendings.now
+        → bytes_left result.feed ≡ bytes_to_absorb (get_or pendings.now k none) }
+{
+    let feed = match pendings.get(k) {
+        Some(Pending { state, parts }) => {
+            Feed::new(&state.rest[..(state.length % 64) as usize], parts)
+        }
+        None => Feed::new(&[], &[]),
+    };
+    let (hash, rest) = (None, [0; 64]);
+    LaneTask { feed, hash, rest }
+}
+
+// The task of each lane. `IsBegun`: the task has not ended and has all these bytes left.
+fn tasks_of<'a>(pendings: &'a [Pending<'a>]) -> [LaneTask<'a>; LANES]
+    ensures count { length result ≡ 16 }
+    ensures begun { (k : ℕ) (no_task : LaneTask) (none : Pending)
+        → k < 16 → k < length pendings.now
+        → IsBegun (get_or pendings.now k none) (get_or result k no_task) }
+{
+    array::from_fn(|k| task(pendings, k))
+}
+
+// The state after `pending` has absorbed its parts, from its task, which has ended (`HasTaken`).
+fn state_behind(pending: &Pending, task: &LaneTask) -> Midstate
+    ensures { (m : List ℕ) → HasAbsorbed pending.now.state m
+        → let message = m ++ message_of pending.now.parts.items in
+        HasTaken task.now message → HasAbsorbed result message }
+{
+    let hash = task.hash.unwrap_or(pending.state.hash);
+    let rest = task.rest;
+    let length = pending.state.length.wrapping_add(length_of(&pending.parts));
+    Midstate { hash, rest, length }
+}
+
+// Each state after ("behind") the parts of its message, computed in as many lanes as `H` has.
+fn states_behind<'a, H: Hashes>(pendings: &'a [Pending<'a>]) -> [Midstate; LANES]
+    requires { HaveLanes (length pendings.now) H.count }
+    ensures { Absorb pendings.now result }
+{
+    let hashes: H = hashes_of(pendings);
+    let mut tasks = tasks_of(pendings);
+    let tasks = &mut tasks[..pendings.len()];
+    finish_all(tasks, hashes);
+    let mut states = [Midstate::new(); LANES];
+    for (k, pending) in pendings.iter().enumerate() {
+        states[k] = state_behind(pending, &tasks[k]);
+    }
+    states
+}
+
+/// Each state after it has absorbed its parts. There are sixteen at most, and the other lanes return an initial state.
+pub fn absorb_each(pendings: &[Pending]) -> [Midstate; LANES]
+    requires few { length pendings.now ≤ 16 }
+    ensures { Absorb pendings.now result }
+{
+    // Reborrowed, so that the slice and the bytes of its parts have one lifetime.
+    let all = &pendings[..];
+    match all.len() {
+        0..=1 => states_behind::<HashState<Simd<u32, 1>>>(all),
+        2..=4 => states_behind::<HashState<u32x4>>(all),
+        5..=8 => states_behind::<HashState<u32x8>>(all),
+        _ => states_behind::<Sixteen>(all),
+    }
+}
+
+// For each buffer an initial state with the buffer as its only part.
+fn pendings_of<'a>(alloc: Global, buffers: &[&'a [u8]]) -> Result<Vec<Pending<'a>>, AllocError>
+    ensures count { IfOk result (λ pendings. length pendings.items ≡ length buffers.now) }
+    ensures each { IfOk result (λ pendings. TakeAll pendings.items (buffer_at buffers.now)) }
+{
+    let mut pendings = Vec::with_capacity(alloc, buffers.len())?;
+    for bytes in buffers {
+        let parts = Vec::from_slice(alloc, &[Part::Bytes(bytes)])?;
+        let state = Midstate::new();
+        pendings.push(Pending { state, parts })?;
+    }
+    Ok(pendings)
+}
+
+// Appends the digests of at most sixteen buffers to `all`: the step of `buffer_digests`. Each padding is absorbed by
+// itself, a block or two.
+fn push_digests(alloc: Global, all: &mut Vec<[u8; 16]>, buffers: &[&[u8]]) -> Result<(), AllocError>
+    requires { length buffers.now ≤ 16 }
+    ensures { OnOk result (all.new.items ≡ all.old.items ++ map md5 (buffers_of buffers.now)) }
+{
+    let pendings = pendings_of(alloc, buffers)?;
+    let states = absorb_each(&pendings);
+    for k in 0..buffers.len() {
+        all.push(states[k].digest())?;
+    }
+    Ok(())
+}
+
+/// The MD5 digests of any number of buffers, in their order. An error is that memory ran out.
+pub fn buffer_digests(alloc: Global, buffers: &[&[u8]]) -> Result<Vec<[u8; 16]>, AllocError>
+    ensures { IfOk result (λ digests. digests.items ≡ map md5 (buffers_of buffers.now)) }
+{
+    let mut digests = Vec::with_capacity(alloc, buffers.len())?;
+    for group in 0..buffers.len().div_ceil(LANES) {
+        let first = group * LANES;
+        let count = LANES.min(buffers.len() - first);
+        push_digests(alloc, &mut digests, &buffers[first..first + count])?;
+    }
+    Ok(digests)
 }

@@ -13,12 +13,9 @@ pub use Rattle.std.specs.List.{AllAdjacentBelow, AllPairs, IsDistinct, range_wit
 pub use Rattle.std.specs.Prelude.{Err, Ok, OnOk, Result, flat_map, if◌then◌else◌, is_ok}
 pub use Rattle.std.specs.Str.{bytes_eq}
 pub use Rattle.md5.specs.Md5.{Holds, md5}
-pub use Rattle.par2_packets.specs.PacketViews.{rest_of}
-pub use Rattle.par2_packets.specs.Pieces.{ArePieces, changed_below, overwritten}
-pub use Rattle.par2_packets.specs.Recoveries.{AreDigested, digest_put, digested, recovery_packet}
+pub use Rattle.par2_packets.specs.PacketViews.{rest_of, file_record_of, record_id_number, packet_view}
+pub use Rattle.par2_packets.specs.Recoveries.{ArePieces, changed_below, overwritten, AreDigested, digest_put, digested, recovery_packet}
 unfoldable pub use Rattle.par2_packets.specs.Recoveries.{undigested}
-pub use Rattle.par2_packets.specs.PacketViews.{file_record_of, record_id_number, packet_view}
 pub use Rattle.par2_spec.proofs.ListsLaws.{increasing, range-append}
-pub use Rattle.par2_spec.specs.Checksums.{Pair}
-pub use Rattle.par2_spec.specs.Packets.{DescBody, IfscBody, MainBody, Packet, accepted, bytes_at, claimed_length, digest_input, items_at, magic, type_of, without_end_zeros}
-unfoldable pub use Rattle.par2_spec.specs.Packets.{accepted_after, begins_with_packet, first_packet, packet, u32_at}
+pub use Rattle.par2_spec.specs.Prelude.{Pair, DescBody, IfscBody, MainBody, Packet, accepted, bytes_at, claimed_length, digest_input, items_at, magic, type_of, without_end_zeros}
+unfoldable pub use Rattle.par2_spec.specs.Prelude.{accepted_after, begins_with_packet, first_packet, packet, u32_at}

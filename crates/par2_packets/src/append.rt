@@ -1,36 +1,20 @@
-//! Writing packets: an `append_` function for each kind makes the body, and `append_packet` adds the header.
+//! Writing packets: an `append_` function for each kind makes the body, and `append_packet` adds the header, in which the
+//! type stands for the kind.
 
 ghost use Rattle.std.specs.Prelude.{◌≡◌, ◌≤◌, ◌+◌, ◌-◌, ◌%◌, ◌++◌, length, map, OnOk, OnErr};
-ghost use Rattle.md5.specs.Md5.{md5};
 ghost use Rattle.par2_spec.specs.Answers.{Appends};
-ghost use Rattle.par2_spec.specs.Packets as packets;
-ghost use Rattle.par2_spec.specs.Packets.{packet};
-ghost use Rattle.par2_spec.specs.Volumes.{packet_of, main_id, main_bytes, desc_bytes, ifsc_bytes, creator_bytes, recovery_bytes};
+ghost use Rattle.par2_spec.specs.Prelude.{packet, packet_of, main_id, main_bytes, desc_bytes, ifsc_bytes, creator_bytes, recovery_bytes};
 ghost use Rattle.par2_packets.specs.PacketViews.{file_record_of};
+ghost use Rattle.par2_spec.specs.Packets as packets;
 
-use crate::bytes::{u32_bytes, u64_bytes};
 use crate::cursor::MAGIC;
-use crate::kind::type_of;
 use crate::record::FileRecord;
 use md5::{Digest, Md5};
 use par2_spec::{Kind, Result};
 use std::alloc::Global;
 
-// The MD5 in a packet's header: of set ID, type and body, whose two parts are `head` and `tail` (PAR2 2.0, packet
-// header).
-fn packet_digest(set_id: &[u8; 16], kind: Kind, head: &[u8], tail: &[u8]) -> [u8; 16]
-    ensures { result ≡ md5 (((set_id.now ++ packets.type_of kind) ++ head.now) ++ tail.now) }
-{
-    let mut hasher = Md5::new();
-    hasher.update(set_id);
-    hasher.update(&type_of(kind));
-    hasher.update(head);
-    hasher.update(tail);
-    hasher.finalize()
-}
-
 // Appends a packet whose body has two parts, `head` and `tail`, or nothing if memory runs out. `set_id` is the Recovery
-// Set ID.
+// Set ID. The MD5 in the header is that of set ID, type and body (PAR2 2.0, packet header).
 fn append_packet(
     out: &mut Vec<u8>,
     set_id: &[u8; 16],
@@ -43,11 +27,16 @@ fn append_packet(
         OnOk result (out.new.items ≡ out.old.items ++ packet added) }
     ensures err { OnErr result (out.new.items ≡ out.old.items) }
 {
-    let digest = packet_digest(set_id, kind, head, tail);
+    let type_bytes = type_of(kind);
+    let mut hasher = Md5::new();
+    hasher.update(set_id);
+    hasher.update(&type_bytes);
+    hasher.update(head);
+    hasher.update(tail);
     let len = 64 + head.len() + tail.len();
     out.reserve(len)?;
-    out.extend_from_slice([*MAGIC, u64_bytes(len as u64)].as_flattened())?;
-    out.extend_from_slice([digest, *set_id, type_of(kind)].as_flattened())?;
+    out.extend_from_slice([*MAGIC, (len as u64).to_le_bytes()].as_flattened())?;
+    out.extend_from_slice([hasher.finalize(), *set_id, type_bytes].as_flattened())?;
     out.extend_from_slice(head)?;
     out.extend_from_slice(tail)
 }
@@ -61,8 +50,8 @@ pub fn append_main(alloc: Global, out: &mut Vec<u8>, s: u64, files: &[FileRecord
         Appends (packet main) out.old out.new result }
     ensures err { OnErr result (out.new.items ≡ out.old.items) }
 {
-    let mut body = Vec::from_slice(alloc, &u64_bytes(s))?;
-    body.extend_from_slice(&u32_bytes(files.len() as u32))?;
+    let mut body = Vec::from_slice(alloc, &s.to_le_bytes())?;
+    body.extend_from_slice(&(files.len() as u32).to_le_bytes())?;
     for file in files {
         body.extend_from_slice(&file.id)?;
     }
@@ -83,7 +72,7 @@ pub fn append_desc(
 {
     let ids = [file.id, file.md5, file.md5_16k];
     let mut body = Vec::from_slice(alloc, ids.as_flattened())?;
-    body.extend_from_slice(&u64_bytes(file.length))?;
+    body.extend_from_slice(&file.length.to_le_bytes())?;
     let name = file.name.as_bytes();
     body.extend_from_slice(name)?;
     body.resize(body.len() + (4 - name.len() % 4) % 4, 0)?;
@@ -104,7 +93,7 @@ pub fn append_ifsc(
     let mut body = Vec::from_slice(alloc, &file.id)?;
     for (md5, crc) in &file.pairs {
         body.extend_from_slice(md5)?;
-        body.extend_from_slice(&u32_bytes(*crc))?;
+        body.extend_from_slice(&crc.to_le_bytes())?;
     }
     append_packet(out, set_id, Kind::Ifsc, &body, &[])
 }
@@ -132,5 +121,34 @@ pub fn append_recovery(
         OnOk result (out.new.items ≡ out.old.items ++ packet added) }
     ensures err { OnErr result (out.new.items ≡ out.old.items) }
 {
-    append_packet(out, set_id, Kind::Recovery, &u32_bytes(e), bytes)
+    append_packet(out, set_id, Kind::Recovery, &e.to_le_bytes(), bytes)
+}
+
+/// The type of a kind: the sixteen bytes at the end of a packet's header (PAR2 2.0).
+pub fn type_of(kind: Kind) -> [u8; 16]
+    ensures { result ≡ packets.type_of kind }
+{
+    match kind {
+        Kind::Main => *b"PAR 2.0\0Main\0\0\0\0",
+        Kind::FileDesc => *b"PAR 2.0\0FileDesc",
+        Kind::Ifsc => *b"PAR 2.0\0IFSC\0\0\0\0",
+        Kind::Recovery => *b"PAR 2.0\0RecvSlic",
+        Kind::Creator => *b"PAR 2.0\0Creator\0",
+        Kind::Other(bytes) => bytes,
+    }
+}
+
+/// The kind of a type, the inverse of `type_of`: `Other` if the type is unknown.
+#[tactic(auto, unfolding(par2_spec::specs::Packets::kind_of))]
+pub fn kind_of(bytes: [u8; 16]) -> Kind
+    ensures { result ≡ packets.kind_of bytes }
+{
+    match bytes {
+        _ if bytes == type_of(Kind::Main) => Kind::Main,
+        _ if bytes == type_of(Kind::FileDesc) => Kind::FileDesc,
+        _ if bytes == type_of(Kind::Ifsc) => Kind::Ifsc,
+        _ if bytes == type_of(Kind::Recovery) => Kind::Recovery,
+        _ if bytes == type_of(Kind::Creator) => Kind::Creator,
+        _ => Kind::Other(bytes),
+    }
 }

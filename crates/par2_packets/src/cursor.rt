@@ -4,10 +4,10 @@
 ghost use Rattle.std.specs.Prelude.{◌≡◌, ◌≤◌, ◌<◌, ◌+◌, ◌-◌, ◌^◌, ℕ, false, length, drop, slice_index, IfSome, MatchOption};
 ghost use Rattle.std.specs.Option.{ForSome};
 ghost use Rattle.md5.specs.Md5.{md5};
-ghost use Rattle.par2_spec.specs.Packets.{begins_with_packet, bytes_at};
-ghost use Rattle.par2_packets.specs.DigestBatches.{IsHead, AreDigests, IsPacketPlace, IsBatchFrom};
+ghost use Rattle.par2_spec.specs.Prelude.{begins_with_packet, bytes_at};
+ghost use Rattle.par2_packets.specs.Recoveries.{IsHead, AreDigests, IsBatchFrom};
 
-use crate::bytes::u64_at;
+use crate::views::u64_at;
 use md5::{Digest, Md5};
 use par2_md5_lanes::{LANES, window_digests};
 
@@ -21,44 +21,6 @@ struct DigestBatch {
     count: usize,
     starts: [usize; LANES],
     digests: [[u8; 16]; LANES],
-}
-
-impl DigestBatch {
-    // Digests the packets of `len` bytes at the first `count` starts. The other starts only fill lanes.
-    fn new(bytes: &[u8], starts: [usize; LANES], count: usize, len: usize) -> DigestBatch
-        // At most sixteen packets, and each start has `len` bytes, also in the lanes that aren't used.
-        requires head { 32 ≤ len }
-        requires few { count ≤ 16 }
-        requires within { (k : ℕ) → k < 16 → slice_index starts k + len ≤ length bytes.now }
-        // The digests are those of these packets, and the arguments are kept.
-        ensures digests { AreDigests bytes.now result }
-        ensures starts { result.starts ≡ starts }
-        ensures count { result.count ≡ count }
-        ensures len { result.len ≡ len }
-    {
-        DigestBatch {
-            len,
-            count,
-            starts,
-            // The MD5 leaves out the first 32 bytes of a packet: magic, length and the MD5 itself.
-            digests: window_digests(&bytes[32..], &starts, count, len - 32),
-        }
-    }
-
-    // The number, from 0, of the batch's packet that begins at `at`, if the batch's packets have `len` bytes.
-    fn place_of(&self, at: usize, len: usize) -> Option<usize>
-        ensures { IfSome result (λ k. IsPacketPlace self.now at len k) }
-    {
-        if len != self.len {
-            return None;
-        }
-        self.starts.iter().position(|&start| start == at)
-    }
-
-    // Whether a packet of the batch begins after the position `at`, so that its digest is still needed.
-    fn is_ahead_of(&self, at: usize) -> bool {
-        self.starts.iter().any(|&start| start > at)
-    }
 }
 
 /// The length that the bytes claim for a packet at their front, or `None` if no packet can be there. `IsHead`: a packet
@@ -105,7 +67,17 @@ fn batch_ahead(bytes: &[u8], at: usize, len: usize) -> Option<DigestBatch>
         }
         place += claim;
     }
-    (count >= 3).then(|| DigestBatch::new(bytes, starts, count, len))
+    if count < 3 {
+        return None;
+    }
+    // The MD5 leaves out the first 32 bytes of a packet: magic, length and the MD5 itself.
+    let digests = window_digests(&bytes[32..], &starts, count, len - 32);
+    Some(DigestBatch {
+        len,
+        count,
+        starts,
+        digests,
+    })
 }
 
 // A packet's bytes from offset 32 on, and their MD5.
@@ -175,26 +147,14 @@ impl<'a> Cursor<'a> {
         ensures { IfSome result (λ d. d ≡ md5 (bytes_at 32 (len - 32) (rest_of self.now))) }
     {
         if let Some(batch) = self.batch
-            && let Some(place) = batch.place_of(self.at, len)
+            && batch.len == len
+            && let Some(place) = batch.starts.iter().position(|&start| start == self.at)
             && place < batch.count
         {
             return Some(batch.digests[place]);
         }
         let longest = self.longest?;
         (longest.bytes == &self.rest()[32..len]).then_some(longest.digest)
-    }
-
-    // A batch that begins with the packet of `len` bytes here, if it pays. A shorter packet doesn't replace the current
-    // batch while one of that batch's packets is still ahead, because it is between them.
-    fn next_batch(&self, len: usize) -> Option<DigestBatch>
-        requires low { 32 ≤ len }
-        requires high { len ≤ length (rest_of self.now) }
-        ensures { IfSome result (IsBatchFrom self.now.bytes.now self.now.at len) }
-    {
-        match self.batch {
-            Some(batch) if len < batch.len && batch.is_ahead_of(self.at) => None,
-            _ => batch_ahead(self.bytes, self.at, len),
-        }
     }
 
     // Digests these bytes of one packet alone, and keeps the digest if they are the longest so far.
@@ -220,11 +180,17 @@ impl<'a> Cursor<'a> {
         if let Some(digest) = self.known_digest(len) {
             return digest;
         }
-        let Some(batch) = self.next_batch(len) else {
-            let rest = self.rest();
-            return self.digest_alone(&rest[32..len]);
-        };
-        self.batch = Some(batch);
-        batch.digests[0]
+        // A shorter packet doesn't replace the batch while one of the batch's packets is still ahead, because it is
+        // between them.
+        let at = self.at;
+        let is_between = self.batch.is_some_and(|batch| {
+            len < batch.len && batch.starts.iter().any(|&start| start > at)
+        });
+        if !is_between && let Some(batch) = batch_ahead(self.bytes, at, len) {
+            self.batch = Some(batch);
+            return batch.digests[0];
+        }
+        let rest = self.rest();
+        self.digest_alone(&rest[32..len])
     }
 }

@@ -5,9 +5,7 @@
 #![tactic(auto)]
 
 mod append;
-mod bytes;
 mod cursor;
-mod kind;
 mod record;
 mod scan;
 mod undigested;

@@ -9,8 +9,6 @@ ghost use Rattle.std.specs.Str.{bytes_eq};
 ghost use Rattle.par2_spec.specs.Volumes as volumes;
 ghost use Rattle.par2_packets.specs.PacketViews.{file_record_of, record_id_number};
 
-use crate::bytes::{u32_bytes, u64_bytes};
-use byteorder::{ByteOrder, LittleEndian};
 use md5::{Digest, Md5};
 use thiserror::Error;
 
@@ -39,7 +37,7 @@ pub fn file_id(md5_16k: &[u8; 16], length: u64, name: &str) -> [u8; 16]
 {
     let mut hasher = Md5::new();
     hasher.update(md5_16k);
-    hasher.update(&u64_bytes(length));
+    hasher.update(&length.to_le_bytes());
     hasher.update(name.as_bytes());
     hasher.finalize()
 }
@@ -51,8 +49,8 @@ pub fn main_id(s: u64, files: &[FileRecord]) -> [u8; 16]
     ensures { result ≡ volumes.main_id s (map file_record_of files.now) }
 {
     let mut hasher = Md5::new();
-    hasher.update(&u64_bytes(s));
-    hasher.update(&u32_bytes(files.len() as u32));
+    hasher.update(&s.to_le_bytes());
+    hasher.update(&(files.len() as u32).to_le_bytes());
     for file in files {
         hasher.update(&file.id);
     }
@@ -64,51 +62,29 @@ pub fn main_id(s: u64, files: &[FileRecord]) -> [u8; 16]
 #[error("two files have one File ID")]
 pub struct DuplicateId;
 
-// The sixteen bytes as a little-endian number. `size` and `bytes` are for the prover: such numbers differ if the bytes
-// do.
-fn little_endian(id: &[u8; 16]) -> u128
+// The File ID as a little-endian number, by which `sort_ids` sorts. `size` and `bytes` are for the prover: such numbers
+// differ if the File IDs do.
+fn number_of(id: &[u8; 16]) -> u128
     ensures value { result ≡ from_le_bytes w128 id.now }
     ensures size { length id.now ≡ 16 }
     ensures bytes { (k : ℕ) → slice_index id.now k < 256 }
 {
-    LittleEndian::read_u128(id)
-}
-
-// The File ID as a little-endian number, by which `sort_ids` sorts.
-fn number_of(file: &FileRecord) -> u128
-    ensures value { result ≡ record_id_number file.now }
-    ensures size { length file.now.id ≡ 16 }
-    ensures bytes { (k : ℕ) → slice_index file.now.id k < 256 }
-{
-    little_endian(&file.id)
-}
-
-// Whether two adjacent records have the same File ID, in records that are sorted by it. If not, no two records have.
-fn has_equal_neighbours(files: &[FileRecord]) -> bool
-    requires { IsNonDecreasingBy record_id_number files.now }
-    ensures none { result ≡ false → IsStrictlyIncreasing (map record_id_number files.now) }
-    ensures some { IsTrue result → ¬ IsDistinct bytes_eq (map (λ file. file.id) files.now) }
-{
-    for i in 1..files.len() {
-        if number_of(&files[i - 1]) == number_of(&files[i]) {
-            return true;
-        }
-    }
-    false
+    u128::from_le_bytes(*id)
 }
 
 /// Sorts the records as a Main packet lists them: by increasing File ID, read as a little-endian number. It returns
-/// `DuplicateId` if two records have the same.
+/// `DuplicateId` if two records have the same: they are then adjacent.
 pub fn sort_ids(files: &mut [FileRecord]) -> Result<(), DuplicateId>
     ensures permutation { IsPermutation files.old files.new }
     ensures rising { OnOk result (IsStrictlyIncreasing (map record_id_number files.new)) }
-
     // It fails exactly if two records have the same File ID.
     ensures distinct { IsOk result ↔ IsDistinct bytes_eq (map (λ file. file.id) files.old) }
 {
-    files.sort_unstable_by_key(number_of);
-    if has_equal_neighbours(files) {
-        return Err(DuplicateId);
+    files.sort_unstable_by_key(|file| number_of(&file.id));
+    for i in 1..files.len() {
+        if number_of(&files[i - 1].id) == number_of(&files[i].id) {
+            return Err(DuplicateId);
+        }
     }
     Ok(())
 }

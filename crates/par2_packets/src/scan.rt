@@ -1,14 +1,14 @@
 //! Scanning bytes for packets: the iterator `Packets` returns the accepted packets of a file. It is created anew for
 //! each further file of a set by `in_bytes`.
 
-ghost use Rattle.std.specs.Prelude.{◌≡◌, ◌≤◌, [], ◌∷◌, length, MatchOption};
+ghost use Rattle.std.specs.Prelude.{◌≡◌, [], ◌∷◌, is_some, IfSome, MatchOption};
 ghost use Rattle.std.specs.Iterator.{YieldsFirstBy, item_count};
 ghost use Rattle.par2_spec.specs.Packets as packets;
 ghost use Rattle.par2_packets.specs.PacketViews.{packet_view, remaining_packets, rest_of};
 
-use crate::bytes::{block, u64_at};
+use crate::append::kind_of;
 use crate::cursor::{Cursor, MAGIC, claimed_length};
-use crate::kind::kind_of;
+use crate::views::block;
 use memchr::memmem::Finder;
 use par2_spec::Kind;
 
@@ -21,31 +21,23 @@ pub struct Packet<'a> {
     pub body: &'a [u8],
 }
 
-// Whether an accepted packet is at the cursor, which doesn't move: the claimed length fits and the MD5 is right.
-fn begins_with_packet(cursor: &mut Cursor<'_>) -> bool
-    ensures begins { result ≡ packets.begins_with_packet (rest_of cursor.old) }
+// The packet at the cursor, which doesn't move, if one is accepted there: the claimed length fits and the MD5 is right.
+#[tactic(auto, unfolding(par2_spec::specs::Packets::first_packet))]
+fn packet_at<'a>(cursor: &mut Cursor<'a>) -> Option<Packet<'a>>
+    ensures begins { is_some result ≡ packets.begins_with_packet (rest_of cursor.old) }
+    ensures first { IfSome result (λ p. packet_view p ≡ packets.first_packet (rest_of cursor.old)) }
     ensures kept { rest_of cursor.new ≡ rest_of cursor.old }
 {
     let bytes = cursor.rest();
-    let Some(len) = claimed_length(bytes) else {
-        return false;
-    };
-    cursor.digest(len) == block(bytes, 16)
-}
-
-// The packet at the front of the bytes, which `begins_with_packet` has found.
-#[tactic(auto, unfolding(par2_spec::specs::Packets::first_packet))]
-fn first_packet(bytes: &[u8]) -> Packet<'_>
-    requires low { 64 ≤ packets.claimed_length bytes.now }
-    requires high { packets.claimed_length bytes.now ≤ length bytes.now }
-    ensures { packet_view result ≡ packets.first_packet bytes.now }
-{
-    let claim = u64_at(bytes, 8) as usize;
-    Packet {
+    let len = claimed_length(bytes)?;
+    if cursor.digest(len) != block(bytes, 16) {
+        return None;
+    }
+    Some(Packet {
         set_id: block(bytes, 32),
         kind: kind_of(block(bytes, 48)),
-        body: &bytes[64..claim],
-    }
+        body: &bytes[64..len],
+    })
 }
 
 // The next accepted packet, or `None` at the end of the bytes. The cursor moves past it.
@@ -58,8 +50,7 @@ fn next_packet<'a>(cursor: &mut Cursor<'a>) -> Option<Packet<'a>>
     let finder = Finder::new(MAGIC);
     while let Some(place) = finder.find(cursor.rest()) {
         cursor.advance(place);
-        if begins_with_packet(cursor) {
-            let packet = first_packet(cursor.rest());
+        if let Some(packet) = packet_at(cursor) {
             cursor.advance(64 + packet.body.len());
             return Some(packet);
         }

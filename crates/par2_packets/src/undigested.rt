@@ -4,14 +4,11 @@
 ghost use Rattle.std.specs.Prelude.{◌≡◌, ◌≤◌, ◌+◌, ◌*◌, ◌++◌, ℕ, List, length, map, drop, flat_map, replicate, OnOk, IfOk};
 ghost use Rattle.std.specs.List.{range_with_len};
 ghost use Rattle.md5.specs.Md5.{md5};
-ghost use Rattle.par2_spec.specs.Answers.{Appends};
-ghost use Rattle.par2_spec.specs.Packets.{bytes_at};
-ghost use Rattle.par2_packets.specs.Pieces.{overwritten, ArePieces};
-ghost use Rattle.par2_packets.specs.Recoveries.{undigested, digested, AreDigested};
+ghost use Rattle.par2_spec.specs.Prelude.{bytes_at};
+ghost use Rattle.par2_packets.specs.Recoveries.{overwritten, ArePieces, undigested, digested, AreDigested};
 
-use crate::bytes::{u32_bytes, u64_bytes};
+use crate::append::type_of;
 use crate::cursor::MAGIC;
-use crate::kind::type_of;
 use par2_md5_lanes::buffer_digests;
 use par2_spec::{Kind, Result};
 use std::alloc::Global;
@@ -21,25 +18,6 @@ const GROUP: usize = 1024;
 
 // The bytes of a packet before its recovery slice: the header of 64 bytes and the exponent.
 const HEAD: usize = 68;
-
-// Appends `count` zeros, in place of a recovery slice.
-fn append_zeros(out: &mut Vec<u8>, count: usize) -> Result<()>
-    ensures { OnOk result (out.new.items ≡ out.old.items ++ replicate count 0) }
-{
-    out.reserve(count)?;
-    out.resize(out.len() + count, 0)
-}
-
-// Appends the recovery packet of exponent `e`, with zeros for its slice of `size` bytes and for its MD5.
-fn append_undigested(out: &mut Vec<u8>, set_id: &[u8; 16], e: u32, size: usize) -> Result<()>
-    requires { 68 + size ≤ usize.MAX }
-    ensures { Appends (undigested set_id.now e (replicate size 0)) out.old out.new result }
-{
-    out.extend_from_slice([*MAGIC, u64_bytes((HEAD + size) as u64)].as_flattened())?;
-    out.extend_from_slice([[0; 16], *set_id, type_of(Kind::Recovery)].as_flattened())?;
-    out.extend_from_slice(&u32_bytes(e))?;
-    append_zeros(out, size)
-}
 
 /// Appends the recovery packets of the `count` exponents from `first` on to the bytes, which it returns, with zeros for
 /// their slices and MD5s. `size` is the number of bytes of a slice, `set_id` the Recovery Set ID.
@@ -58,7 +36,11 @@ pub fn with_undigested(
 {
     let mut all = bytes;
     for k in 0..count {
-        append_undigested(&mut all, set_id, first + k, size)?;
+        all.extend_from_slice([*MAGIC, ((HEAD + size) as u64).to_le_bytes()].as_flattened())?;
+        all.extend_from_slice([[0; 16], *set_id, type_of(Kind::Recovery)].as_flattened())?;
+        all.extend_from_slice(&(first + k).to_le_bytes())?;
+        all.reserve(size)?;
+        all.resize(all.len() + size, 0)?;
     }
     Ok(all)
 }
@@ -80,27 +62,8 @@ fn digest_input(packets: &[u8], len: usize, k: usize) -> &[u8]
     &packets[k * len + 32..(k + 1) * len]
 }
 
-// The MD5s of `count` packets of `len` bytes each from packet number `first` on, computed side by side.
-fn packet_digests(
-    alloc: Global,
-    packets: &[u8],
-    len: usize,
-    first: usize,
-    count: usize,
-) -> Result<Vec<[u8; 16]>>
-    requires packets { (first + count) * len ≤ length packets.now }
-    requires head { 32 ≤ len }
-    ensures { IfOk result (λ digests. digests.items ≡ map
-        (λ k. md5 (drop 32 (bytes_at (k * len) len packets.now))) (range_with_len first count)) }
-{
-    let inputs = (first..first + count)
-        .map(|k| digest_input(packets, len, k))
-        .collect::<Vec<&[u8]>>(alloc)?;
-    buffer_digests(alloc, &inputs)
-}
-
-// Fills in the MD5s of `count` packets of `len` bytes each from packet number `first` on. `AreDigested`: if the packets
-// before these have their MD5s, all up to the last of these then have them.
+// Fills in the MD5s of `count` packets of `len` bytes each from packet number `first` on, which it computes side by
+// side. `AreDigested`: if the packets before these have their MD5s, all up to the last of these then have them.
 fn digest_group(
     alloc: Global,
     packets: &mut [u8],
@@ -112,7 +75,8 @@ fn digest_group(
     requires head { 32 ≤ len }
     ensures { OnOk result (AreDigested len first (first + count) packets.old packets.new) }
 {
-    let digests = packet_digests(alloc, packets, len, first, count)?;
+    let inputs = (first..first + count).map(|k| digest_input(packets, len, k));
+    let digests = buffer_digests(alloc, &inputs.collect::<Vec<&[u8]>>(alloc)?)?;
     for k in 0..count {
         overwrite(packets, (first + k) * len + 16, &digests[k]);
     }

@@ -1,12 +1,12 @@
 //! Views of packet bodies, which read the fields in place. The `read_` function of a kind checks the body of a packet
-//! and returns the view.
+//! and returns the view. Fields are read by `block`, sixteen bytes, and by `u64_at` and `u32_at`, little-endian numbers.
 
-ghost use Rattle.std.specs.Prelude.{◌≡◌, ◌<◌, Some, length, slice_get};
+ghost use Rattle.std.specs.Prelude.{◌≡◌, ◌<◌, Some, length, slice_get, ◌+◌, ◌≤◌};
 ghost use Rattle.par2_spec.specs.Packets as packets;
 
-use crate::bytes::{block, u32_at, u64_at};
 use crate::record::Pair;
 use crate::scan::Packet;
+use byteorder::{ByteOrder, LittleEndian};
 use par2_spec::Kind;
 use std::marker::Model;
 
@@ -19,7 +19,7 @@ pub struct MainView<'a> {
 impl<'a> Model for MainView<'a> {
     ghost use Rattle.std.specs.Prelude.{◌+◌, ◌*◌, ◌≤◌, length};
     ghost use Rattle.par2_spec.specs.Packets.{MainBody, u32_at};
-    ghost use Rattle.par2_packets.specs.Bodies.{main_said};
+    ghost use Rattle.par2_packets.specs.PacketViews.{main_said};
 
     ghost Value = { MainBody };
 
@@ -48,8 +48,7 @@ impl<'a> MainView<'a> {
         requires { k < length self.now.ids }
         ensures { slice_get self.now.ids k ≡ Some result }
     {
-        let body = self.body;
-        block(body, 12 + 16 * k)
+        block(self.body, 12 + 16 * k)
     }
 }
 
@@ -62,7 +61,7 @@ pub struct DescView<'a> {
 impl<'a> Model for DescView<'a> {
     ghost use Rattle.std.specs.Prelude.{◌≤◌, length};
     ghost use Rattle.par2_spec.specs.Packets.{DescBody};
-    ghost use Rattle.par2_packets.specs.Bodies.{desc_said};
+    ghost use Rattle.par2_packets.specs.PacketViews.{desc_said};
 
     ghost Value = { DescBody };
 
@@ -118,7 +117,7 @@ pub struct IfscView<'a> {
 impl<'a> Model for IfscView<'a> {
     ghost use Rattle.std.specs.Prelude.{◌≤◌, length};
     ghost use Rattle.par2_spec.specs.Packets.{IfscBody};
-    ghost use Rattle.par2_packets.specs.Bodies.{ifsc_said};
+    ghost use Rattle.par2_packets.specs.PacketViews.{ifsc_said};
 
     ghost Value = { IfscBody };
 
@@ -161,13 +160,12 @@ pub struct RecoveryView<'a> {
 }
 
 impl<'a> Model for RecoveryView<'a> {
-    ghost use Rattle.std.specs.Prelude.{◌≤◌, length};
-    ghost use Rattle.par2_spec.specs.Packets.{RecoveryBody};
-    ghost use Rattle.par2_packets.specs.Bodies.{recovery_said};
+    ghost use Rattle.std.specs.Prelude.{◌≤◌, length, drop};
+    ghost use Rattle.par2_spec.specs.Packets.{RecoveryBody, u32_at};
 
     ghost Value = { RecoveryBody };
 
-    ghost view = { λ recovery. recovery_said recovery.body.now };
+    ghost view = { λ r. record { exponent = u32_at 0 r.body.now; bytes = drop 4 r.body.now } };
 
     ghost invariant = { λ recovery. 4 ≤ length recovery.body.now };
 }
@@ -249,4 +247,32 @@ pub fn read_recovery<'a>(packet: &Packet<'a>) -> Option<RecoveryView<'a>>
         return None;
     }
     Some(RecoveryView { body })
+}
+
+/// The sixteen bytes from position `at` on.
+pub fn block(bytes: &[u8], at: usize) -> [u8; 16]
+    requires { at + 16 ≤ length bytes.now }
+    ensures { result ≡ packets.bytes_at at 16 bytes.now }
+{
+    let mut block = [0; 16];
+    block.copy_from_slice(&bytes[at..at + 16]);
+    block
+}
+
+/// The little-endian number in the eight bytes from position `at` on.
+#[tactic(auto, unfolding(par2_spec::specs::Packets::u64_at))]
+pub fn u64_at(bytes: &[u8], at: usize) -> u64
+    requires { at + 8 ≤ length bytes.now }
+    ensures { result ≡ packets.u64_at at bytes.now }
+{
+    LittleEndian::read_u64(&bytes[at..at + 8])
+}
+
+/// The little-endian number in the four bytes from position `at` on.
+#[tactic(auto, unfolding(par2_spec::specs::Packets::u32_at))]
+pub fn u32_at(bytes: &[u8], at: usize) -> u32
+    requires { at + 4 ≤ length bytes.now }
+    ensures { result ≡ packets.u32_at at bytes.now }
+{
+    LittleEndian::read_u32(&bytes[at..at + 4])
 }

@@ -1,11 +1,9 @@
 -- Slices against the pairs of their numbers.
-use Rattle.par2_slices.proofs.Common.{inl, inr, ◌≡◌, ◌≢◌, ℕ, zero, suc, ◌+◌, ◌*◌, ◌<◌, ◌≤◌, min, Bool, true, false, ◌&&◌, List, [], ◌∷◌, length, map, take, Decides, refl, sym, ap, subst, ◌∙◌, arith, ◌==◌, zip, list_all, range_with_len, bytes_eq, div_ceil_times, cases_lt, and_parts, eq-eqb, eqb-true, false_from_ne_true, false≢true, same_from_decides, get_or-take, length-take, bytes_eq-Decides, md5, Pair, crc32, is_intact, slice_at, slice_count, is_match, no_pair, pair_at, HaveCrc32s, HaveMd5s}
-use Rattle.par2_spec.specs.Sets.{Target}
+use Rattle.par2_slices.proofs.Common.{◌≡◌, ◌≢◌, ℕ, zero, suc, ◌+◌, ◌<◌, ◌≤◌, min, Bool, true, false, ◌&&◌, List, [], ◌∷◌, length, map, take, Decides, refl, sym, ap, subst, ◌∙◌, arith, ◌==◌, zip, list_all, range_with_len, bytes_eq, div_ceil_times, and_parts, eq-eqb, eqb-true, false_from_ne_true, false≢true, same_from_decides, get_or-take, length-take, bytes_eq-Decides, md5, Pair, crc32, is_intact, slice_at, slice_count, is_match, no_pair, pair_at, HaveCrc32s, HaveMd5s}
+use Rattle.par2_spec.specs.Prelude.{Target}
 
 match_from : (pair : Pair) (slice : List ℕ) → crc32 slice ≡ pair.1 → md5 slice ≡ pair.0 → is_match pair slice ≡ true
-match_from pair slice crc digest =
-    ap (λ b. b && bytes_eq (md5 slice) pair.0) (eq-eqb (crc32 slice) pair.1 crc)
-    ∙ (bytes_eq-Decides (md5 slice) pair.0).1 digest
+match_from pair slice crc digest = grind (arith, eq-eqb, bytes_eq-Decides)
 
 parts_of_match : (pair : Pair) (slice : List ℕ) → is_match pair slice ≡ true → (crc32 slice ≡ pair.1) × (md5 slice ≡ pair.0)
 parts_of_match pair slice h =
@@ -36,9 +34,7 @@ abbrev pub compared : ℕ → Target → List Pair
 compared s t = take (min (length t.pairs) (slice_count s t.length)) t.pairs
 
 pub compared_is : (s : ℕ) (t : Target) (size count n : ℕ) (pairs : List Pair) → t.length ≡ size → t.pairs ≡ pairs → count ≡ slice_count s size → n ≡ min (length pairs) count → take n pairs ≡ compared s t
-compared_is s t size count n pairs size_is pairs_is count_is n_is =
-    ap (λ k. take k pairs) (n_is ∙ ap (min (length pairs)) (count_is ∙ ap (slice_count s) (sym size_is)))
-    ∙ ap (λ (ps : List Pair). take (min (length ps) (slice_count s t.length)) ps) (sym pairs_is)
+compared_is s t size count n pairs size_is pairs_is count_is n_is = grind (arith)
 
 -- each has the checksums of its slice
 pub record AreAlike (s : ℕ) (bytes : List ℕ) (pairs : List Pair) : Type 0 where
@@ -89,13 +85,7 @@ not_intact_by_crcs s t bytes first crcs is decides differ =
     differ ∙ sym (false_from_ne_true _ (λ e. false≢true (sym differ ∙ decides.1 (subst (AreAlike s bytes) (sym is) (alike_from_intact s t bytes e)).crcs)))
 
 pub slices_are_some : (s n : ℕ) → 1 ≤ s → 0 < n → 0 < slice_count s n
-slices_are_some s n size some = elim (cases_lt 0 (slice_count s n)) [
-  | inl low ↦ low
-  | inr none ↦
-      let zero_of_them : slice_count s n ≡ 0 = omega (arith, none) in
-      let fits : n ≤ 0 * s = subst (λ k. n ≤ k * s) zero_of_them (div_ceil_times n s size).0 in
-      absurd (omega (arith, fits, some))
-]
+slices_are_some s n size some = grind (arith, div_ceil_times)
 
 -- nor is it if the first one doesn't agree
 pub not_intact_by_first : (s : ℕ) (t : Target) (bytes : List ℕ) → 1 ≤ s → 0 < length bytes → 0 < length t.pairs → crc32 (slice_at s bytes 0) ≢ (pair_at t.pairs 0).1 → is_intact s t bytes ≡ false

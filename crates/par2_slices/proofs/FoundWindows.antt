@@ -1,5 +1,5 @@
 -- Windows at the positions that a search finds.
-use Rattle.par2_slices.proofs.Common.{◌≡◌, ℕ, zero, suc, ◌+◌, ◌<◌, Bool, true, false, cond, List, [], ◌∷◌, ◌++◌, length, map, drop, get_or, refl, sym, ap, ap₂, subst, ◌∙◌, arith, Option, Some, None, IfSome, find, flat_map, option_map, range_with_len, option_or, flat_map-append, append-nil, drop_more, get_or-map, length-drop, length-map, find-append, Pair, first_match, found, is_match, window, windows, Position, first_position, first_position_from, no_pair, pair_at, position_in, listed_at, IsWithin, window_in}
+use Rattle.par2_slices.proofs.Common.{◌≡◌, ℕ, zero, suc, ◌+◌, ◌<◌, Bool, true, false, cond, List, [], ◌∷◌, ◌++◌, length, map, drop, get_or, refl, sym, ap, ap₂, subst, ◌∙◌, arith, Option, Some, None, IfSome, find, option_map, range_with_len, option_or, flat_map-append, append-nil, drop_more, get_or-map, length-drop, length-map, find-append, Pair, first_match, found, is_match, window, Position, first_position, first_position_from, no_pair, pair_at, position_in, listed_at, IsWithin, window_in}
 
 pub out_of : {X Y : Type 0} (f : X → Y) (b : Bool) (x : X) (o : Option X) → cond b (Some (f x)) (option_map f o) ≡ option_map f (cond b (Some x) o)
 out_of f true x o = refl
@@ -11,15 +11,11 @@ find-map p f (x ∷ xs) = ap (cond (p (f x)) (Some (f x))) (find-map p f xs) ∙
 
 -- the window found in one buffer
 found_one : (s : ℕ) (bytes : List ℕ) (pair : Pair) → found s (bytes ∷ []) pair ≡ option_map (window s bytes) (first_match s bytes pair)
-found_one s bytes pair =
-    ap (find (is_match pair)) (append-nil (windows s bytes))
-    ∙ find-map (is_match pair) (window s bytes) (range_with_len 0 (length bytes))
+found_one s bytes pair = grind (arith, append-nil, find-map)
 
 -- the window found in some buffers and then in others
 found-append : (s : ℕ) (buffers others : List (List ℕ)) (pair : Pair) → found s (buffers ++ others) pair ≡ option_or (found s buffers pair) (found s others pair)
-found-append s buffers others pair =
-    ap (find (is_match pair)) (flat_map-append (windows s) buffers others)
-    ∙ find-append (is_match pair) (flat_map (windows s) buffers) (flat_map (windows s) others)
+found-append s buffers others pair = grind (arith, flat_map-append, find-append)
 
 first_below : (p : ℕ → Bool) (a n : ℕ) → IfSome (find p (range_with_len a n)) (λ o. o < a + n)
 first_below p a zero = tt

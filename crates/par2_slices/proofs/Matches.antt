@@ -1,12 +1,11 @@
--- Matches by the numbers of buffers, and by their names.
-use Rattle.par2_slices.proofs.Common.{◌≡◌, ℕ, zero, suc, ◌+◌, ◌<◌, Bool, true, false, not, ◌||◌, cond, List, [], ◌∷◌, ◌++◌, length, map, drop, get_or, refl, sym, ap, subst, ◌∙◌, inl, inr, arith, Option, Some, None, IfSome, filter, find, ◌==◌, option_map, option_to_list, range_with_len, All, IsDistinct, bytes_eq, cases_lt, eq-eqb, eqb-true, false≢true, same_from_decides, append_assoc, drop_more, ext_get_or, get_or-map, length-map, All-filter, All-tail, get_or-map-range_with_len, get_or-range_with_len, length-map-range_with_len, length-range_with_len, bytes_eq-Decides, is_intact, matched, map-cond, Describe, Describes, NumbersAreNames, first_intact, matched_from, matched_numbers, listed_at, without_number}
+-- Matches by the numbers of buffers, and by their names; the checksums of slices one after the other.
+use Rattle.par2_slices.proofs.Common.{◌≡◌, ℕ, zero, suc, ◌+◌, ◌<◌, Bool, true, false, not, ◌||◌, cond, List, [], ◌∷◌, ◌++◌, length, map, drop, get_or, refl, sym, ap, subst, ◌∙◌, inl, inr, arith, Option, Some, None, IfSome, filter, find, ◌==◌, option_map, option_to_list, range_with_len, All, IsDistinct, bytes_eq, cases_lt, eq-eqb, eqb-true, false≢true, same_from_decides, append_assoc, drop_more, ext_get_or, get_or-map, length-map, All-filter, All-tail, get_or-map-range_with_len, get_or-range_with_len, length-map-range_with_len, length-range_with_len, bytes_eq-Decides, is_intact, matched, map-cond, Describe, Describes, NumbersAreNames, first_intact, matched_from, matched_numbers, listed_at, without_number, ◌-◌, ◌*◌, ◌≤◌, min, take, ap₂, zero-add, mul-le-mul_right, map-range_with_len_more, append-nil, length-take, length-drop, map-append, md5, Pair, pair_of, slice_at, window, first_pairs}
 use Rattle.std.proofs.Math.Bool.{or-false}
 use Rattle.std.proofs.lemmas.Map.Keys.{apart_from_distinct}
-use Rattle.par2_spec.specs.Folders.{Folder, bytes_of}
-use Rattle.par2_spec.specs.Names.{is_among}
-use Rattle.par2_spec.specs.Sets as sets
+use Rattle.par2_spec.specs.Prelude.{Folder, bytes_of, is_among}
 use Rattle.par2_slices.specs.declared.matching.Target.{Target}
 use Rattle.par2_slices.proofs.FoundWindows.{out_of}
+use Rattle.par2_spec.specs.Sets as sets
 
 -- the first of the buffers from index n on
 first_from : (s : ℕ) (buffers : List (List ℕ)) (t : sets.Target) (free : List ℕ) (n : ℕ) → n < length free → first_intact s buffers t (drop n free)
@@ -14,12 +13,10 @@ first_from : (s : ℕ) (buffers : List (List ℕ)) (t : sets.Target) (free : Lis
 first_from s buffers t free n within = ap (λ is. first_intact s buffers t is) (drop_more free n 0 within)
 
 pub first_here : (s : ℕ) (buffers : List (List ℕ)) (t : sets.Target) (free : List ℕ) (n : ℕ) → n < length free → is_intact s t (listed_at buffers (get_or free n 0)) ≡ true → first_intact s buffers t (drop n free) ≡ Some (get_or free n 0)
-first_here s buffers t free n within h =
-    first_from s buffers t free n within ∙ ap (λ b. cond b (Some (get_or free n 0)) (first_intact s buffers t (drop (n + 1) free))) h
+first_here s buffers t free n within h = grind (arith, first_from)
 
 pub first_later : (s : ℕ) (buffers : List (List ℕ)) (t : sets.Target) (free : List ℕ) (n : ℕ) → n < length free → is_intact s t (listed_at buffers (get_or free n 0)) ≡ false → first_intact s buffers t (drop (n + 1) free) ≡ first_intact s buffers t (drop n free)
-first_later s buffers t free n within h =
-    sym (first_from s buffers t free n within ∙ ap (λ b. cond b (Some (get_or free n 0)) (first_intact s buffers t (drop (n + 1) free))) h)
+first_later s buffers t free n within h = grind (arith, first_from)
 
 -- ---- one target after the other
 
@@ -144,3 +141,30 @@ numbers_are_names folder s names ts distinct =
     ap (λ n. map (option_map (listed_at names)) (matched_from s (map (bytes_of folder) names) (range_with_len 0 n) ts)) (length-map names (bytes_of folder))
     ∙ numbers_from folder s names (range_with_len 0 (length names)) ts distinct (below_length (length names))
     ∙ ap (λ free. matched folder s free ts) (names_of_all names)
+
+-- Slices that lie in the file entirely, and their checksums one after the other.
+
+-- a window that lies in the file has no padding
+pub whole_window : (s : ℕ) (bytes : List ℕ) (o : ℕ) → o + s ≤ length bytes → take s (drop o bytes) ≡ window s bytes o
+whole_window s bytes o within = grind (arith, length-take, length-drop, append-nil)
+
+-- a slice before the last of some that lie in the file
+pub one_of_whole : (s : ℕ) (bytes : List ℕ) (first count k : ℕ) → (first + count) * s ≤ length bytes → k < count
+    → take s (drop ((first + k) * s) bytes) ≡ slice_at s bytes (first + k)
+one_of_whole s bytes first count k within below =
+    let more : (first + k + 1) * s ≤ (first + count) * s = mul-le-mul_right s (omega (arith, below)) in
+    whole_window s bytes ((first + k) * s) (omega (arith, more, within))
+
+-- the digest of a lane is that of its slice
+pub digest_is : (s first count k : ℕ) (bytes starts : List ℕ) (digest : List ℕ) → (first + count) * s ≤ length bytes → k < count → get_or starts k 0 ≡ (first + min k (count - 1)) * s
+    → digest ≡ md5 (take s (drop (get_or starts k 0) bytes)) → digest ≡ md5 (slice_at s bytes (first + k))
+digest_is s first count k bytes starts digest within below start its = grind (arith, one_of_whole)
+
+-- the checksums of one more slice
+pub one_pair_more : (s : ℕ) (bytes : List ℕ) (n m : ℕ) (pairs new : List Pair) (pair : Pair) → pairs ≡ first_pairs s bytes n → pair ≡ pair_of (slice_at s bytes n)
+    → new ≡ pairs ++ pair ∷ [] → m ≡ n + 1 → new ≡ first_pairs s bytes m
+one_pair_more s bytes n m pairs new pair so_far is pushed next =
+    let cut = slice_at s bytes in
+    pushed
+    ∙ ap₂ (λ (xs : List Pair) (x : Pair). xs ++ x ∷ []) so_far is
+    ∙ sym (ap (first_pairs s bytes) next ∙ ap (map pair_of) (map-range_with_len_more cut 0 n n (zero-add n)) ∙ map-append pair_of (map cut (range_with_len 0 n)) (cut n ∷ []))

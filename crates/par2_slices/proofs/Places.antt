@@ -4,9 +4,6 @@ use Rattle.par2_slices.proofs.Common.{◌≡◌, ℕ, ◌+◌, ◌-◌, ◌/◌,
 abbrev pub place_of : List Pair → ℕ → PairPlace
 place_of pairs i = record { crc = (pair_at pairs i).1; index = i }
 
-its_place : (pairs : List Pair) (i : ℕ) → i < length pairs → IsPlace pairs (place_of pairs i)
-its_place pairs i below = record { within = below; crc = refl }
-
 place_i : (pairs : List Pair) (i : ℕ) (d : PairPlace) → i < length pairs → get_or (map (place_of pairs) (range_with_len 0 (length pairs))) i d ≡ place_of pairs i
 place_i pairs i d below = get_or-map-range_with_len (place_of pairs) 0 (length pairs) i i d below (let e : 0 + i ≡ i = omega arith in e)
 
@@ -16,7 +13,7 @@ index_of pairs places sorted are moved rising =
     let size : length places ≡ length pairs = ap length are ∙ length-map-range_with_len (place_of pairs) 0 (length pairs) in
     let at : (i : ℕ) (d : PairPlace) → i < length pairs → get_or places i d ≡ place_of pairs i = λ i d below. ap (λ ps. get_or ps i d) are ∙ place_i pairs i d below in
     let Its : PairPlace → Type 0 = IsPlace pairs in
-    let all : All Its places = All-from_get_or Its places no_place (λ i below. let h : i < length pairs = omega (arith, below, size) in subst Its (sym (at i no_place h)) (its_place pairs i h)) in
+    let all : All Its places = All-from_get_or Its places no_place (λ i below. let h : i < length pairs = omega (arith, below, size) in subst Its (sym (at i no_place h)) (h, refl)) in
     let all_sorted : All Its sorted = All-permutation Its places sorted moved all in
     record {
       rising = rising;
@@ -73,7 +70,7 @@ group_of pairs places crc start end index first next =
           let k : ℕ = found.0 in
           let place : PairPlace = pair_place_at places k in
           let its : place.crc / 2 ^ 17 ≡ group = (
-          ap (λ c. c / 2 ^ 17) (sym ((index.each k found.1).crc) ∙ ap (λ j. (pair_at pairs j).1) found.2) ∙ same
+          ap (λ c. c / 2 ^ 17) (sym ((index.each k found.1).1) ∙ ap (λ j. (pair_at pairs j).1) found.2) ∙ same
           ) in
           let from : start ≤ k = not_below k start (λ early. ne_of_lt (first.below k early) its) in
           let until : k < end = lt_of_not-le {n = end} {m = k} (λ late. omega (arith, next.above k late found.1, its)) in

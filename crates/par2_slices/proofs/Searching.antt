@@ -1,17 +1,111 @@
--- A search in progress.
-use Rattle.par2_slices.proofs.Common.{shr-shr, ◌≡◌, ℕ, zero, suc, ◌+◌, ◌-◌, ◌*◌, ◌/◌, ◌%◌, ◌^◌, ◌<◌, ◌≤◌, Bool, true, false, cond, List, [], ◌∷◌, ◌++◌, length, map, drop, get_or, set, replicate, refl, sym, ap, subst, ◌∙◌, get_or-set_same, get_or-set_other, inl, inr, arith, ◌⊎◌, ◌==◌, Option, Some, None, find, option_map, bit_at, count_by, list_all, range_with_len, is_none, option_or, bytes_eq, and_from, and_left, and_right, cases_eq, cases_lt, eq-eqb, ne_eqb, length-replicate, length-map, get_or-map, ext_get_or, get_or_append_left, get_or_at, length_push, drop_more, find-append, sum_by-zero, sum_by-replicate, list_all_at, md5, Pair, is_match, first_match, range-append, or_nothing, AreAlike, Groups, Includes, no_pair, IsOfOpenPair, no_place, no_candidate, pair_at, pair_place_at, candidate_at, answer_at, answer_below, position_in, first_position, first_position_from, HoldsGroup, is_awaited, after_window, has_checksums, IsWindow, IsTally, IsScannedTo, after_candidates, first_below, Candidate, Position, PairPlace, sum_by-set, Scan, window_of, crc_of, earlier_answer, AreAnswered, HaveAnswers, Bor, and_parts, false_from_ne_true, none_from, eqb-true, All-from_get_or, IsWhole}
-use Rattle.par2_slices.proofs.Groups.{replicate_at}
+-- The filter as a set of groups of checksums, what a search has found before an offset, and the windows of four
+-- stretches that it passes over.
+use Rattle.par2_slices.proofs.Common.{All-push, below_more, length-set, ◌≡◌, ◌≢◌, ℕ, zero, suc, ◌+◌, ◌-◌, ◌*◌, ◌^◌, ◌<◌, ◌%◌, ◌/◌, List, length, get_or, set, replicate, refl, subst, sym, ap, ◌∙◌, get_or-set_same, get_or-set_other, arith, inl, inr, ◌⊎◌, bit_and, bit_or, w8, bit_at, bit_not, cases_eq, get_or_read, shr_below, suc-ne-zero, Groups, IsLong, Includes, shr-shr, ◌≤◌, Bool, true, false, cond, [], ◌∷◌, ◌++◌, map, drop, ◌==◌, Option, Some, None, find, option_map, count_by, list_all, range_with_len, is_none, option_or, bytes_eq, and_from, and_left, and_right, cases_lt, eq-eqb, ne_eqb, length-replicate, length-map, get_or-map, ext_get_or, get_or_append_left, get_or_at, get_or-le-sum_by, get_or_push, length_push, drop_more, find-append, sum_by-zero, sum_by-replicate, list_all_at, md5, Pair, is_match, first_match, range-append, or_nothing, AreAlike, no_pair, IsOfOpenPair, no_place, no_candidate, pair_at, pair_place_at, candidate_at, answer_at, answer_below, position_in, first_position, first_position_from, HoldsGroup, is_awaited, after_window, has_checksums, IsWindow, IsTally, IsScannedTo, after_candidates, first_below, Candidate, Position, PairPlace, sum_by-set, Scan, window_of, crc_of, earlier_answer, AreAnswered, HaveAnswers, Bor, and_parts, false_from_ne_true, none_from, eqb-true, All-from_get_or, IsWhole, get_or-drop, after_slide, AreCrcs, AreCandidateRows, IsNoted, row_at, Row, no_row}
+use Rattle.std.specs.Int.{Width}
+use Rattle.std.proofs.lemmas.Nat.Bits.{bit_at_or, bit_at_set_same, bit_at_set_other, bit_at_clear_same, bit_at_clear_other}
 use Rattle.std.specs.Prelude.{◌&&◌}
-use Rattle.std.proofs.lemmas.List.{length-set}
 use Rattle.std.proofs.lemmas.List.Sums.{fold-append, list_all-from_AllPass}
+use mir.Val.{bits}
+use Rattle.par2_slices.proofs.Checksums.{slid_window}
+
+pub within : (crc shift : ℕ) → crc < 2 ^ 32 → shift < 32 → crc / 2 ^ shift < 2 ^ (32 - shift)
+within crc shift fits low =
+    let split : 32 ≡ 32 - shift + shift = omega (arith, low) in
+    shr_below crc (32 - shift) shift (subst (λ (k : ℕ). crc < 2 ^ k) split fits)
+
+pub below : {shift : ℕ} → (shift ≡ 13) ⊎ (shift ≡ 15) → (n : ℕ) → 15 < n → shift < n
+below (inl few) n low = omega (arith, few, low)
+below (inr many) n low = omega (arith, many, low)
+
+-- a checksum's byte is in the table, and what is read there
+pub its_place : (shift crc : ℕ) (bytes : List ℕ) → crc < 2 ^ 32 → IsLong shift bytes → crc / 2 ^ shift < length bytes
+its_place shift crc bytes fits long = subst (λ (n : ℕ). crc / 2 ^ shift < n) (sym long.len) (within crc shift fits (below long.either 32 (omega arith)))
+
+pub replicate_at : {X : Type 0} (n i : ℕ) (x : X) → get_or (replicate n x) i x ≡ x
+replicate_at zero i x = refl
+replicate_at (suc n) zero x = refl
+replicate_at (suc n) (suc i) x = replicate_at n i x
+
+-- the bytes with the group's bit set, and with the bit cleared
+abbrev pub with_bit : ℕ → ℕ → List ℕ → Groups
+with_bit shift crc bytes = record { shift = shift; bytes = set bytes (crc / 2 ^ shift) (bit_or (get_or bytes (crc / 2 ^ shift) 0) (1 * 2 ^ (crc % 8) % 2 ^ 8)) }
+
+abbrev pub without_bit : ℕ → ℕ → List ℕ → Groups
+without_bit shift crc bytes = record { shift = shift; bytes = set bytes (crc / 2 ^ shift) (bit_and (get_or bytes (crc / 2 ^ shift) 0) (bit_not w8 (1 * 2 ^ (crc % 8) % 2 ^ 8))) }
+
+-- a group's bit after another byte was written at its index, or at another one
+in_place : (shift crc other byte : ℕ) (bytes : List ℕ) → crc / 2 ^ shift < length bytes → other / 2 ^ shift ≡ crc / 2 ^ shift → bit_at (get_or (set bytes (crc / 2 ^ shift) byte) (other / 2 ^ shift) 0) (other % 8) ≡ bit_at byte (other % 8)
+in_place shift crc other byte bytes place same = rw (same, get_or-set_same bytes (crc / 2 ^ shift) byte 0 place) refl
+
+elsewhere : (shift crc other byte : ℕ) (bytes : List ℕ) → other / 2 ^ shift ≢ crc / 2 ^ shift → bit_at (get_or (set bytes (crc / 2 ^ shift) byte) (other / 2 ^ shift) 0) (other % 8) ≡ bit_at (get_or bytes (other / 2 ^ shift) 0) (other % 8)
+elsewhere shift crc other byte bytes apart = ap (λ w. bit_at w (other % 8)) (get_or-set_other bytes (crc / 2 ^ shift) (other / 2 ^ shift) byte 0 apart)
+
+-- the bit in the byte at the same index
+here : (shift crc other : ℕ) (bytes : List ℕ) → other / 2 ^ shift ≡ crc / 2 ^ shift → bit_at (get_or bytes (other / 2 ^ shift) 0) (other % 8) ≡ bit_at (get_or bytes (crc / 2 ^ shift) 0) (other % 8)
+here shift crc other bytes same = ap (λ i. bit_at (get_or bytes i 0) (other % 8)) same
+
+pub included : (shift crc : ℕ) (bytes : List ℕ) → crc / 2 ^ shift < length bytes → Includes (with_bit shift crc bytes) crc
+included shift crc bytes place =
+    record { bit = in_place shift crc crc _ bytes place refl ∙ bit_at_set_same w8 (get_or bytes (crc / 2 ^ shift) 0) (crc % 8) (omega arith) }
+
+-- a bit of a word stays set when another is set
+pub kept_by_set : (w : Width) (words : List ℕ) (i k : ℕ) → i < length words → k < bits w → (j l : ℕ) → bit_at (get_or words j 0) l ≡ 1 → bit_at (get_or (set words i (bit_or (get_or words i 0) (1 * 2 ^ k % 2 ^ bits w))) j 0) l ≡ 1
+kept_by_set w words i k place low j l is = grind (arith, get_or-set_same, get_or-set_other, bit_at_set_same, bit_at_set_other)
+
+pub kept_by_insert : (shift crc : ℕ) (bytes : List ℕ) → crc / 2 ^ shift < length bytes → (other : ℕ) → Includes (record { shift = shift; bytes = bytes }) other → Includes (with_bit shift crc bytes) other
+kept_by_insert shift crc bytes place other is = record { bit = kept_by_set w8 bytes (crc / 2 ^ shift) (crc % 8) place (omega arith) (other / 2 ^ shift) (other % 8) is.bit }
+
+pub only_by_insert : (shift crc : ℕ) (bytes : List ℕ) → crc / 2 ^ shift < length bytes → (other : ℕ) → Includes (with_bit shift crc bytes) other → (other / 2 ^ shift ≡ crc / 2 ^ shift) × (other % 8 ≡ crc % 8) ⊎ Includes (record { shift = shift; bytes = bytes }) other
+only_by_insert shift crc bytes place other is = elim (cases_eq (other / 2 ^ shift) (crc / 2 ^ shift)) [
+  | inl same ↦ elim (cases_eq (other % 8) (crc % 8)) [
+    | inl low ↦ inl (same, low)
+    | inr apart ↦ inr (record { bit = here shift crc other bytes same ∙ sym (bit_at_set_other w8 (get_or bytes (crc / 2 ^ shift) 0) (crc % 8) (omega arith) (other % 8) apart) ∙ sym (in_place shift crc other _ bytes place same) ∙ is.bit })
+  ]
+  | inr apart ↦ inr (record { bit = sym (elsewhere shift crc other _ bytes apart) ∙ is.bit })
+]
+
+pub gone : (shift crc : ℕ) (bytes : List ℕ) → crc / 2 ^ shift < length bytes → Includes (without_bit shift crc bytes) crc → ⊥
+gone shift crc bytes place is =
+    suc-ne-zero 0 (sym is.bit ∙ in_place shift crc crc _ bytes place refl ∙ bit_at_clear_same w8 (get_or bytes (crc / 2 ^ shift) 0) (crc % 8) (omega arith))
+
+-- a bit of a word stays set when another is cleared
+pub kept_by_clear : (w : Width) (words : List ℕ) (i k : ℕ) → i < length words → k < bits w → (j l : ℕ) → l < bits w → ((j ≡ i) × (l ≡ k) → ⊥) → bit_at (get_or words j 0) l ≡ 1 → bit_at (get_or (set words i (bit_and (get_or words i 0) (bit_not w (1 * 2 ^ k % 2 ^ bits w)))) j 0) l ≡ 1
+kept_by_clear w words i k place low j l within differs is = grind (arith, get_or-set_same, get_or-set_other, bit_at_clear_other)
+
+pub kept_by_remove : (shift crc : ℕ) (bytes : List ℕ) → crc / 2 ^ shift < length bytes → (other : ℕ) → ((other / 2 ^ shift ≡ crc / 2 ^ shift) × (other % 8 ≡ crc % 8) → ⊥) → Includes (record { shift = shift; bytes = bytes }) other → Includes (without_bit shift crc bytes) other
+kept_by_remove shift crc bytes place other differs is = record { bit = kept_by_clear w8 bytes (crc / 2 ^ shift) (crc % 8) place (omega arith) (other / 2 ^ shift) (other % 8) (omega arith) differs is.bit }
+
+pub only_by_remove : (shift crc : ℕ) (bytes : List ℕ) → crc / 2 ^ shift < length bytes → (other : ℕ) → Includes (without_bit shift crc bytes) other → Includes (record { shift = shift; bytes = bytes }) other
+only_by_remove shift crc bytes place other is = elim (cases_eq (other / 2 ^ shift) (crc / 2 ^ shift)) [
+  | inl same ↦
+      let byte : ℕ = get_or bytes (crc / 2 ^ shift) 0 in
+      let cleared : ℕ = bit_and byte (bit_not w8 (1 * 2 ^ (crc % 8) % 2 ^ 8)) in
+      let still : bit_at cleared (other % 8) ≡ 1 = sym (in_place shift crc other cleared bytes place same) ∙ is.bit in
+      let apart : other % 8 ≢ crc % 8 = λ low. suc-ne-zero 0 (sym still ∙ ap (bit_at cleared) low ∙ bit_at_clear_same w8 byte (crc % 8) (omega arith)) in
+      record { bit = here shift crc other bytes same ∙ sym (bit_at_clear_other w8 byte (crc % 8) (omega arith) (other % 8) (omega arith) apart) ∙ still }
+  | inr apart ↦ record { bit = sym (elsewhere shift crc other _ bytes apart) ∙ is.bit }
+]
+
+-- the union of two bytes is odd if one of them is
+either : (a b : ℕ) → (a % 2 ≡ 1) ⊎ (b % 2 ≡ 1) → bit_or a b % 2 ≡ 1
+either a b has = grind (arith, bit_at_or a b 0)
+
+-- and that of four
+pub one_of_four : (P : ℕ → Type 0) (a b c d : ℕ) → (P 0 → a % 2 ≡ 1) → (P 1 → b % 2 ≡ 1) → (P 2 → c % 2 ≡ 1) → (P 3 → d % 2 ≡ 1) → (k : ℕ) → k < 4 → P k → bit_or (bit_or a b) (bit_or c d) % 2 ≡ 1
+one_of_four P a b c d first second third fourth zero low is = either (bit_or a b) (bit_or c d) (inl (either a b (inl (first is))))
+one_of_four P a b c d first second third fourth (suc zero) low is = either (bit_or a b) (bit_or c d) (inl (either a b (inr (second is))))
+one_of_four P a b c d first second third fourth (suc (suc zero)) low is = either (bit_or a b) (bit_or c d) (inr (either c d (inl (third is))))
+one_of_four P a b c d first second third fourth (suc (suc (suc zero))) low is = either (bit_or a b) (bit_or c d) (inr (either c d (inr (fourth is))))
+one_of_four P a b c d first second third fourth (suc (suc (suc (suc k)))) low is = absurd (omega (arith, low))
+
+-- what a write of item k leaves of a list that a loop fills
+pub ruleset writes = (length-set, below_more, get_or-set_other, get_or-set_same)
+
+-- A search in progress.
 
 first_below-more : (scan : Scan) (o : ℕ) (pair : Pair) → first_below scan (o + 1) pair ≡ option_or (first_below scan o pair) (cond (is_match pair (window_of scan o)) (Some o) None)
 unfolding first_below
-first_below-more scan o pair =
-    let test : ℕ → Bool = λ k. is_match pair (window_of scan k) in
-    ap (find test) (range-append 0 o 1)
-    ∙ find-append test (range_with_len 0 o) (range_with_len (0 + o) 1)
-    ∙ ap (λ k. option_or (find test (range_with_len 0 o)) (cond (test k) (Some k) None)) (let e : 0 + o ≡ o = omega arith in e)
+first_below-more scan o pair = grind (arith, range-append, find-append)
 
 -- one more offset
 pub below-more : (scan : Scan) (o : ℕ) (pair : Pair)
@@ -38,13 +132,9 @@ settled_open : (scan : Scan) (pair : Pair) (candidates : List Candidate) (answer
 settled_open scan pair candidates None is = refl
 settled_open scan pair candidates (Some x) is = sym (settled_some scan pair candidates x) ∙ is
 
--- before any candidate
-settled_none : (scan : Scan) (pair : Pair) (answer : Option Position) → after_candidates scan pair [] answer ≡ answer
-unfolding after_candidates
-settled_none scan pair answer = refl
-
 pub none_settled : (scan : Scan) (pair : Pair) (candidates : List Candidate) (answer : Option Position) → length candidates ≡ 0 → after_candidates scan pair candidates answer ≡ answer
-none_settled scan pair [] answer none = settled_none scan pair answer
+unfolding after_candidates
+none_settled scan pair [] answer none = refl
 none_settled scan pair (candidate ∷ rest) answer none = absurd (omega (arith, none))
 
 -- one more candidate after the others
@@ -69,9 +159,7 @@ kept m position old now (inl same) fails = same ∙ stays m position old (λ non
 kept m position old now (inr done) fails = done
 
 was_open : (m : Bool) (position : Position) (old now : Option Position) → (now ≡ old) ⊎ (now ≡ after_window m position old) → now ≡ None → old ≡ None
-was_open m position None now either none = refl
-was_open m position (Some x) now (inl same) none = sym same ∙ none
-was_open m position (Some x) now (inr done) none = sym done ∙ none
+was_open m position old now either none = grind (arith)
 
 pub no_crc : (pair : Pair) (md5 : List ℕ) (crc : ℕ) → (pair.1 ≡ crc → ⊥) → has_checksums md5 crc pair ≡ false
 no_crc pair md5 crc other = and_left (crc == pair.1) _ (ne_eqb crc pair.1 (λ same. other (sym same)))
@@ -100,11 +188,7 @@ no_more scan o found left filter batch crc at is have =
 
 none_counted : (X : Type 0) (p : X → Bool) (xs : List X) (i : ℕ) (d : X) → count_by p xs ≡ 0 → i < length xs → p (get_or xs i d) ≡ true → ⊥
 none_counted X p xs i d none h holds =
-    let weight : X → ℕ = λ x. cond (p x) 1 0 in
-    let some : list_all (λ x. weight x == 0) xs ≡ false = list_all_at (λ x. weight x == 0) xs i d h (ap (λ b. cond b 1 0 == 0) holds) in
-    let all : true ≡ list_all (λ x. weight x == 0) xs = sym (eq-eqb (count_by p xs) 0 none) ∙ sum_by-zero weight xs in
-    let both : true ≡ false = all ∙ some in
-    cc
+    let weight : X → ℕ = λ x. cond (p x) 1 0 in omega (arith, get_or-le-sum_by weight xs i d h, ap {B = ℕ} (λ b. cond b 1 0) holds, none)
 
 -- no open pair has a checksum of a group that isn't in the filter
 pub unmarked : (pairs : List Pair) (found : List (Option Position)) (left : ℕ) (filter : Groups) (crc : ℕ) → IsTally pairs found left filter → (Includes filter crc → ⊥) → HaveAnswers pairs found crc
@@ -114,7 +198,7 @@ unmarked pairs found left filter crc tally not_included i h same none = not_incl
 pub unawaited : (pairs : List Pair) (found : List (Option Position)) (crc : ℕ) (group : List PairPlace) → HoldsGroup pairs crc group → count_by (is_awaited crc found) group ≡ 0 → HaveAnswers pairs found crc
 unawaited pairs found crc group holds closed i h its none =
     let place = holds.whole i h (ap (λ c. c / 2 ^ 17) its) in
-    let crc_is : (pair_place_at group place.0).crc ≡ crc = sym (holds.each place.0 place.1).crc ∙ ap (λ j. (pair_at pairs j).1) place.2 ∙ its in
+    let crc_is : (pair_place_at group place.0).crc ≡ crc = sym (holds.each place.0 place.1).1 ∙ ap (λ j. (pair_at pairs j).1) place.2 ∙ its in
     let unanswered : answer_at found (pair_place_at group place.0).index ≡ None = ap (answer_at found) place.2 ∙ none in
     none_counted PairPlace (is_awaited crc found) group place.0 no_place closed place.1
     (ap (λ b. b && is_none (answer_at found (pair_place_at group place.0).index)) (eq-eqb (pair_place_at group place.0).crc crc crc_is) ∙ ap is_none unanswered)
@@ -127,12 +211,11 @@ all_answered pairs found crc group holds have =
     let its = holds.each k h in
     ap (λ b. cond b 1 0 == 0) (false_from_ne_true (is_awaited crc found place) (λ pending.
     let parts = and_parts (place.crc == crc) (is_none (answer_at found place.index)) pending in
-    have place.index its.within (its.crc ∙ eqb-true _ _ parts.0) (none_from (answer_at found place.index) parts.1))))))
+    have place.index its.0 (its.1 ∙ eqb-true _ _ parts.0) (none_from (answer_at found place.index) parts.1))))))
 
 -- the checksums are those of a window
 pub matches : (scan : Scan) (o : ℕ) (digest : List ℕ) (crc : ℕ) (pair : Pair) → digest ≡ md5 (window_of scan o) → crc ≡ crc_of scan o → has_checksums digest crc pair ≡ is_match pair (window_of scan o)
-matches scan o digest crc pair digest_is crc_is =
-    ap (λ m. has_checksums m crc pair) digest_is ∙ ap (λ k. has_checksums (md5 (window_of scan o)) k pair) crc_is
+matches scan o digest crc pair digest_is crc_is = rw (digest_is, crc_is) refl
 
 -- the window at the offset has been compared, and the batch is empty
 pub compared : (scan : Scan) (o : ℕ) (old new : List (Option Position)) (left after : ℕ) (filter included : Groups) (batch : List Candidate) (digest : List ℕ) (crc : ℕ) → IsScannedTo scan o old left filter batch → batch ≡ [] → digest ≡ md5 (window_of scan o) → crc ≡ crc_of scan o → IsTally scan.wanted.now new after included →
@@ -161,12 +244,7 @@ pushed scan o crc found left filter batch at whole crc_is = record {
       settled_more scan pair batch candidate (answer_at found i)
       ∙ ap (after_window (is_match pair (window_of scan o)) candidate.position) (at.answers i h)
       ∙ sym (below-more scan o pair);
-  candidates = λ k h.
-      let Is : Candidate → Type 0 = IsWindow scan in
-      elim (cases_lt k (length batch)) [
-        | inl early ↦ subst Is (sym (get_or_append_left batch (candidate ∷ []) no_candidate k early)) (at.candidates k early)
-        | inr late ↦ subst Is (sym (get_or_at batch candidate [] no_candidate k (let e : length batch ≡ k = omega (arith, late, h, length_push batch candidate) in e))) (record { whole = whole; crc = crc_is })
-      ];
+  candidates = All-push (IsWindow scan) batch candidate at.candidates (record { whole = whole; crc = crc_is });
 }
   where
     candidate : Candidate
@@ -182,7 +260,7 @@ emptied scan o old new left after filter included candidates rest at tally empty
       none_settled scan (pair_at scan.wanted.now i) rest (answer_at new i) (ap length empty)
       ∙ all i h
       ∙ at.answers i h;
-  candidates = λ k h. absurd (omega (arith, h, ap length empty));
+  candidates = λ k d h. absurd (omega (arith, h, ap length empty));
 }
 
 -- an open pair isn't in a group whose pairs are all found
@@ -191,7 +269,7 @@ pub not_closed : (shift : ℕ) (pairs : List Pair) (found : List (Option Positio
 not_closed shift pairs found crc group fine holds closed i h none same =
     let coarser : (c : ℕ) → c / 2 ^ shift / 2 ^ (17 - shift) ≡ c / 2 ^ 17 = λ c. shr-shr c shift (17 - shift) ∙ ap (λ n. c / 2 ^ n) (let e : shift + (17 - shift) ≡ 17 = omega (arith, fine) in e) in
     let place = holds.whole i h (sym (coarser (pair_at pairs i).1) ∙ ap (λ b. b / 2 ^ (17 - shift)) same.0 ∙ coarser crc) in
-    let its : (pair_place_at group place.0).crc ≡ (pair_at pairs i).1 = sym (holds.each place.0 place.1).crc ∙ ap (λ j. (pair_at pairs j).1) place.2 in
+    let its : (pair_place_at group place.0).crc ≡ (pair_at pairs i).1 = sym (holds.each place.0 place.1).1 ∙ ap (λ j. (pair_at pairs j).1) place.2 in
     closed place.0 place.1 (subst (AreAlike shift crc) (sym its) same) (ap (answer_at found) place.2 ∙ none)
 
 -- a pair that keeps a group in the filter is of that group
@@ -200,15 +278,10 @@ pub waiting_pair : (shift : ℕ) (pairs : List Pair) (found : List (Option Posit
 waiting_pair shift pairs found crc group holds k h same none other alike =
     let place : PairPlace = pair_place_at group k in
     let its = holds.each k h in
-    (place.index, its.within, none, subst (λ (c : ℕ). AreAlike shift c other) (sym its.crc) (alike.0 ∙ sym same.0, alike.1 ∙ sym same.1))
+    (place.index, its.0, none, subst (λ (c : ℕ). AreAlike shift c other) (sym its.1) (alike.0 ∙ sym same.0, alike.1 ∙ sym same.1))
 
 pub included_alike : (groups : Groups) (crc other : ℕ) → AreAlike groups.shift crc other → Includes groups other → Includes groups crc
-included_alike groups crc other alike is = record {
-  bit =
-      ap (λ i. bit_at (get_or groups.bytes i 0) (crc % 8)) (sym alike.0)
-      ∙ ap (bit_at (get_or groups.bytes (other / 2 ^ groups.shift) 0)) (sym alike.1)
-      ∙ is.bit;
-}
+included_alike groups crc other alike is = record { bit = rw (← alike.0, ← alike.1) is.bit }
 
 -- the checksum is of the group of a pair
 abbrev IsOfPair : ℕ → List Pair → ℕ → Type 0
@@ -226,11 +299,7 @@ pub filled_more : (pairs : List Pair) (n : ℕ) (before after : Groups) → IsFi
     → ((other : ℕ) → Includes after other → AreAlike before.shift crc other ⊎ Includes before other)
     → crc ≡ (pair_at pairs n).1 → IsFilled pairs (n + 1) after
 filled_more pairs n before after filled low crc shift included kept only its = record {
-  included = λ k h.
-      elim (cases_lt k n) [
-        | inl early ↦ kept (pair_at pairs k).1 (filled.included k early)
-        | inr late ↦ subst (λ (c : ℕ). Includes after c) (its ∙ ap (λ j. (pair_at pairs j).1) (let e : n ≡ k = omega (arith, late, h) in e)) included
-      ];
+  included = below_more (λ k. Includes after (pair_at pairs k).1) n (λ k h. kept (pair_at pairs k).1 (filled.included k h)) (subst (λ (c : ℕ). Includes after c) its included);
   only = λ other is. subst (λ (shift : ℕ). IsOfPair shift pairs other) (sym shift)
       (elim (only other is) [
         | inl alike ↦ (n, low, subst (λ (c : ℕ). AreAlike before.shift c other) its alike)
@@ -243,11 +312,7 @@ filled_more pairs n before after filled low crc shift included kept only its = r
 pub none_answered : (pairs : List Pair) (found : List (Option Position)) (left : ℕ) (filter : Groups) → found ≡ replicate (length pairs) None → left ≡ length pairs → IsFilled pairs (length pairs) filter → IsTally pairs found left filter
 none_answered pairs found left filter found_is left_is filled = record {
   len = ap length found_is ∙ length-replicate (length pairs) None;
-  count =
-      left_is
-      ∙ (let e : length pairs ≡ length pairs * 1 = omega arith in e)
-      ∙ sym (sum_by-replicate (λ (x : Option Position). cond (is_none x) 1 0) (length pairs) None)
-      ∙ ap (count_by is_none) (sym found_is);
+  count = rw (found_is, sum_by-replicate (λ (x : Option Position). cond (is_none x) 1 0) (length pairs) None) (omega (arith, left_is));
   included = λ i h none. filled.included i h;
   only = λ crc is.
       let its = filled.only crc is in
@@ -266,7 +331,7 @@ at_start scan found left filter batch tally before empty = record {
   answers = λ i h.
       let pair : Pair = pair_at scan.wanted.now i in
       none_settled scan pair batch (answer_at found i) (ap length empty) ∙ before i h ∙ or_nothing (earlier_answer scan pair);
-  candidates = λ k h. absurd (omega (arith, h, ap length empty));
+  candidates = λ k d h. absurd (omega (arith, h, ap length empty));
 }
 
 -- if no pair is open, no further offset changes a position
@@ -291,10 +356,7 @@ first_position-more : (n s : ℕ) (buffers : List (List ℕ)) (bytes : List ℕ)
 first_position-more n s [] bytes pair =
     sym (or_nothing (option_map (position_in n) (first_match s bytes pair)))
     ∙ ap (λ k. option_map (position_in k) (first_match s bytes pair)) (let e : n ≡ n + 0 = omega arith in e)
-first_position-more n s (t ∷ buffers) bytes pair =
-    ap (option_or (option_map (position_in n) (first_match s t pair))) (first_position-more (n + 1) s buffers bytes pair)
-    ∙ or_or (option_map (position_in n) (first_match s t pair)) (first_position_from (n + 1) s buffers pair) (option_map (position_in (n + 1 + length buffers)) (first_match s bytes pair))
-    ∙ ap (λ k. option_or (option_or (option_map (position_in n) (first_match s t pair)) (first_position_from (n + 1) s buffers pair)) (option_map (position_in k) (first_match s bytes pair))) (let e : n + 1 + length buffers ≡ n + suc (length buffers) = omega arith in e)
+first_position-more n s (t ∷ buffers) bytes pair = rw (let e : n + suc (length buffers) ≡ n + 1 + length buffers = omega arith in e) (grind (arith, or_or, first_position-more (n + 1) s buffers bytes pair))
   where
     or_or : {A : Type 0} (a b c : Option A) → option_or a (option_or b c) ≡ option_or (option_or a b) c
     or_or None b c = refl
@@ -311,12 +373,7 @@ bytes_done scan found left filter batch i at empty inside =
 
 -- the positions once each buffer has been searched
 pub all_done : (s : ℕ) (buffers : List (List ℕ)) (pairs : List Pair) (found : List (Option Position)) → length found ≡ length pairs → ((i : ℕ) → i < length pairs → answer_at found i ≡ first_position s buffers (pair_at pairs i)) → found ≡ map (first_position s buffers) pairs
-all_done s buffers pairs found size each =
-    ext_get_or None found (map (first_position s buffers) pairs)
-    (size ∙ sym (length-map pairs (first_position s buffers)))
-    (λ i h.
-    let inside : i < length pairs = omega (arith, h, size) in
-    each i inside ∙ sym (get_or-map (first_position s buffers) pairs i no_pair None inside))
+all_done s buffers pairs found size each = ext_get_or None found (map (first_position s buffers) pairs) (omega (arith, length-map pairs (first_position s buffers))) (λ i h. grind (arith, each, length-map, get_or-map))
 
 -- the invariant of the loop over the first n places of a group
 pub record Settled (pairs : List Pair) (md5 : List ℕ) (crc : ℕ) (position : Position) (old : List (Option Position)) (group : List PairPlace) (n : ℕ) (found : List (Option Position)) (count : ℕ) : Type 0 where
@@ -332,18 +389,10 @@ not_settled pairs md5 crc position old group n found count so_far inside fails =
     record {
       len = so_far.len;
       each = so_far.each;
-      done = λ k h. elim (cases_lt k n) [
-        | inl early ↦ so_far.done k early
-        | inr late ↦ (
-            let here : n ≡ k = omega (arith, h, late) in
-            subst (λ (j : ℕ). answer_at found (pair_place_at group j).index ≡ after_window (has_checksums md5 crc (pair_at pairs (pair_place_at group j).index)) position (answer_at old (pair_place_at group j).index)) here (kept m position (answer_at old i) (answer_at found i) (so_far.each i inside) fails)
-            )
-      ];
+      done = below_more (λ j. answer_at found (pair_place_at group j).index ≡ after_window (has_checksums md5 crc (pair_at pairs (pair_place_at group j).index)) position (answer_at old (pair_place_at group j).index)) n so_far.done
+          (kept m position (answer_at old i) (answer_at found i) (so_far.each i inside) fails);
       total = so_far.total;
     }
-
-not_there : (k n : ℕ) → k < n + 1 → (k ≡ n → ⊥) → k < n
-not_there k n h other = omega (arith, h, other)
 
 pub one_settled : (pairs : List Pair) (md5 : List ℕ) (crc : ℕ) (position : Position) (old : List (Option Position)) (group : List PairPlace) (n : ℕ) (found : List (Option Position)) (count : ℕ) → Settled pairs md5 crc position old group n found count → length old ≡ length pairs → (pair_place_at group n).index < length pairs → answer_at found (pair_place_at group n).index ≡ None → has_checksums md5 crc (pair_at pairs (pair_place_at group n).index) ≡ true → Settled pairs md5 crc position old group (n + 1) (set found (pair_place_at group n).index (Some position)) (count + 1)
 one_settled pairs md5 crc position old group n found count so_far size inside none match_is =
@@ -368,21 +417,16 @@ one_settled pairs md5 crc position old group n found count so_far size inside no
           | inr moved ↦ inr (get_or-set_other found i j (Some position) None other ∙ moved)
         ]
       ];
-      done = λ k h. elim (cases_eq (pair_place_at group k).index i) [
+      done = below_more (λ k. Is (pair_place_at group k).index) n (λ k early. elim (cases_eq (pair_place_at group k).index i) [
         | inl same ↦ subst Is (sym same) here
-        | inr other ↦ (
-            let early : k < n = not_there k n h (λ is. other (ap (λ j. (pair_place_at group j).index) is)) in
-            get_or-set_other found i (pair_place_at group k).index (Some position) None other ∙ so_far.done k early
-            )
-      ];
+        | inr other ↦ get_or-set_other found i (pair_place_at group k).index (Some position) None other ∙ so_far.done k early
+      ]) here;
       total = omega (arith, weighed, heavy, so_far.total);
     }
 
 -- an open pair of another checksum stays open
 still_open : (pair : Pair) (md5 : List ℕ) (crc : ℕ) (position : Position) (old new : Option Position) → (new ≡ old) ⊎ (new ≡ after_window (has_checksums md5 crc pair) position old) → (pair.1 ≡ crc → ⊥) → old ≡ None → new ≡ None
-still_open pair md5 crc position old new (inl same) other none = same ∙ none
-still_open pair md5 crc position old new (inr done) other none =
-    done ∙ ap (λ m. after_window m position old) (no_crc pair md5 crc other) ∙ ap (λ o. after_window false position o) none
+still_open pair md5 crc position old new either other none = grind (arith, no_crc)
 
 -- the tally of the open pairs afterwards; the filter keeps the group if a pair of it is open
 pub tally_settled : (pairs : List Pair) (md5 : List ℕ) (crc : ℕ) (position : Position) (old new : List (Option Position)) (left count : ℕ) (filter after : Groups) → IsTally pairs old left filter → length new ≡ length old
@@ -418,3 +462,158 @@ not_awaited crc found place pair md5 same pending none =
 
 pub no_md5 : (pair : Pair) (md5 : List ℕ) (crc : ℕ) → bytes_eq md5 pair.0 ≡ false → has_checksums md5 crc pair ≡ false
 no_md5 pair md5 crc differs = and_right (crc == pair.1) _ differs
+
+-- Windows that are passed over, because each pair of their checksums is found.
+
+-- how far a stretch has been searched before row j
+pub reached : List Row → ℕ → ℕ
+reached rows zero = 0
+reached rows (suc j) = (row_at rows j).at + 1
+
+-- a found pair stays found
+answered-more : (scan : Scan) (o n : ℕ) (crc : ℕ) → AreAnswered scan o crc → AreAnswered scan (o + n) crc
+answered-more scan o zero crc have i h its none =
+    have i h its (ap (λ a. answer_below scan a (pair_at scan.wanted.now i)) (let e : o ≡ o + 0 = omega arith in e) ∙ none)
+answered-more scan o (suc n) crc have i h its none =
+    answered-more scan o n crc have i h its
+    (was_none (is_match (pair_at scan.wanted.now i) (window_of scan (o + n))) (position_in (length scan.earlier.now) (o + n)) (answer_below scan (o + n) (pair_at scan.wanted.now i))
+    (sym (below-more scan (o + n) (pair_at scan.wanted.now i)) ∙ ap (λ a. answer_below scan a (pair_at scan.wanted.now i)) (let e : o + n + 1 ≡ o + suc n = omega arith in e) ∙ none))
+  where
+    was_none : (m : Bool) (position : Position) (old : Option Position) → after_window m position old ≡ None → old ≡ None
+    was_none m position None nothing = refl
+    was_none m position (Some x) nothing = nothing
+
+-- n windows are passed over
+passed : (scan : Scan) (from o n : ℕ) (found : List (Option Position)) (left : ℕ) (filter : Groups) (batch : List Candidate) → from ≤ o → IsScannedTo scan o found left filter batch
+    → ((d : ℕ) → d < n → AreAnswered scan from (crc_of scan (o + d))) → IsScannedTo scan (o + n) found left filter batch
+passed scan from o zero found left filter batch before at have =
+    subst (λ a. IsScannedTo scan a found left filter batch) (let e : o ≡ o + 0 = omega arith in e) at
+passed scan from o (suc n) found left filter batch before at have =
+    let here : o + n ≡ from + (o + n - from) = omega (arith, before) in
+    subst (λ a. IsScannedTo scan a found left filter batch) (let e : o + n + 1 ≡ o + suc n = omega arith in e)
+    (passed-one scan (o + n) found left filter batch
+    (passed scan from o n found left filter batch before at (λ d h. have d (omega (arith, h))))
+    (subst (λ a. AreAnswered scan a (crc_of scan (o + n))) (sym here)
+    (answered-more scan from (o + n - from) (crc_of scan (o + n)) (have n (omega arith)))))
+
+-- the windows of stretch k from a row up to the next one, or to the end, are passed over
+pub passed-to : (scan : Scan) (start len k j m : ℕ) (rows : List Row) (found : List (Option Position)) (left : ℕ) (filter : Groups) (batch : List Candidate)
+    → AreCandidateRows scan start len len rows → k < 4 → m ≤ len → reached rows j ≤ m → j ≤ length rows → ((i : ℕ) → j ≤ i → i < length rows → m ≤ (row_at rows i).at)
+    → IsScannedTo scan (start + k * len + reached rows j) found left filter batch → IsScannedTo scan (start + k * len + m) found left filter batch
+unfolding reached
+passed-to scan start len k j m rows found left filter batch are stretch inside from below after at =
+    let o : ℕ = start + k * len + reached rows j in
+    let n : ℕ = m - reached rows j in
+    subst (λ a. IsScannedTo scan a found left filter batch) (let e : o + n ≡ start + k * len + m = omega (arith, from) in e)
+    (passed scan start o n found left filter batch (omega arith) at
+    (λ d h.
+    let row : ℕ = reached rows j + d in
+    let low : row < m = omega (arith, h, from) in
+    subst (λ a. AreAnswered scan start (crc_of scan a)) (let e : start + k * len + row ≡ o + d = omega arith in e)
+    (elim (are.others row (omega (arith, low, inside))) [
+      | inl noted ↦ absurd (not_noted rows j row m are.rising below (omega arith) low after noted)
+      | inr free ↦ free k stretch
+    ])))
+  where
+    before_reached : (rows : List Row) (j i : ℕ) → ((i j : ℕ) → i < j → j < length rows → (row_at rows i).at < (row_at rows j).at) → j ≤ length rows → i < j → (row_at rows i).at < reached rows j
+    before_reached rows zero i rising below early = absurd (omega (arith, early))
+    before_reached rows (suc j) i rising below early = grind (arith, rising i j)
+
+    not_noted : (rows : List Row) (j row m : ℕ) → ((i j : ℕ) → i < j → j < length rows → (row_at rows i).at < (row_at rows j).at) → j ≤ length rows → reached rows j ≤ row → row < m → ((i : ℕ) → j ≤ i → i < length rows → m ≤ (row_at rows i).at) → IsNoted rows row → ⊥
+    not_noted rows j row m rising below from low after (i, h, is) = grind (arith, before_reached rows j i rising below, after i)
+
+-- a row that isn't recorded
+pub skipped : (scan : Scan) (start len at : ℕ) (rows : List Row) → AreCandidateRows scan start len at rows
+    → ((k : ℕ) → k < 4 → AreAnswered scan start (crc_of scan (start + k * len + at))) → AreCandidateRows scan start len (at + 1) rows
+skipped scan start len at rows are free = record {
+  rising = are.rising;
+  below = λ j h. omega (arith, are.below j h);
+  crcs = are.crcs;
+  others = below_more (λ a. IsNoted rows a ⊎ ((k : ℕ) → k < 4 → AreAnswered scan start (crc_of scan (start + k * len + a)))) at are.others (inr free);
+}
+
+-- a row that is recorded
+pub noted : (scan : Scan) (start len at : ℕ) (crcs : List ℕ) (rows : List Row) → AreCandidateRows scan start len at rows
+    → AreCrcs scan.rolling.now.size scan.bytes.now start len at crcs → AreCandidateRows scan start len (at + 1) (rows ++ record { at = at; crcs = crcs } ∷ [])
+noted scan start len at crcs rows are its = record {
+  rising = λ i j less h. grind (arith, length_push, get_or_append_left, get_or_push, are.rising, are.below);
+  below = λ j h. grind (arith, length_push, get_or_append_left, get_or_push, are.below);
+  crcs = λ j h. elim (cases_lt j (length rows)) [
+    | inl early ↦ subst (λ (r : Row). AreCrcs scan.rolling.now.size scan.bytes.now start len r.at r.crcs) (sym (old j early)) (are.crcs j early)
+    | inr late ↦ subst (λ (r : Row). AreCrcs scan.rolling.now.size scan.bytes.now start len r.at r.crcs) (sym (new j h late)) its
+  ];
+  others = below_more (λ a. IsNoted more a ⊎ ((k : ℕ) → k < 4 → AreAnswered scan start (crc_of scan (start + k * len + a)))) at
+      (λ a h. elim (are.others a h) [
+        | inl there ↦ inl (there.0, omega (arith, there.1, size), ap (λ (r : Row). r.at) (old there.0 there.1) ∙ there.2)
+        | inr free ↦ inr free
+      ])
+      (inl (length rows, omega (arith, size), ap (λ (r : Row). r.at) (get_or_at rows row [] no_row (length rows) refl)));
+}
+  where
+    row : Row
+    row = record { at = at; crcs = crcs }
+
+    more : List Row
+    more = rows ++ row ∷ []
+
+    size : length more ≡ length rows + 1
+    size = length_push rows row
+
+    old : (j : ℕ) → j < length rows → row_at more j ≡ row_at rows j
+    old j h = get_or_append_left rows (row ∷ []) no_row j h
+
+    new : (j : ℕ) → j < length more → length rows ≤ j → row_at more j ≡ row
+    new j h late = get_or_at rows row [] no_row j (let e : length rows ≡ j = omega (arith, late, h, size) in e)
+
+-- the checksums of the next row
+pub next_row : (scan : Scan) (start len at : ℕ) (crcs after outs nexts : List ℕ) → 1 ≤ scan.rolling.now.size → outs ≡ drop start scan.bytes.now → nexts ≡ drop scan.rolling.now.size outs → AreCrcs scan.rolling.now.size scan.bytes.now start len at crcs
+    → ((k : ℕ) → k < 4 → get_or after k 0 ≡ after_slide scan.rolling.now.size (get_or crcs k 0) (get_or outs (k * len + at) 0) (get_or nexts (k * len + at) 0)) → AreCrcs scan.rolling.now.size scan.bytes.now start len (at + 1) after
+next_row scan start len at crcs after outs nexts some outs_is nexts_is are each k h =
+    let s : ℕ = scan.rolling.now.size in
+    let content : List ℕ = scan.bytes.now in
+    let o : ℕ = start + k * len + at in
+    let out_at : (j : ℕ) → get_or outs j 0 ≡ get_or content (start + j) 0 = λ j. ap (λ bytes. get_or bytes j 0) outs_is ∙ get_or-drop start content j 0 in
+    let out_is : get_or outs (k * len + at) 0 ≡ get_or content o 0 = out_at (k * len + at) ∙ ap (λ j. get_or content j 0) (let e : start + (k * len + at) ≡ o = omega arith in e) in
+    let next_is : get_or nexts (k * len + at) 0 ≡ get_or content (s + o) 0 = ap (λ bytes. get_or bytes (k * len + at) 0) nexts_is ∙ get_or-drop s outs (k * len + at) 0
+    ∙ out_at (s + (k * len + at)) ∙ ap (λ j. get_or content j 0) (let e : start + (s + (k * len + at)) ≡ s + o = omega arith in e) in
+    each k h
+    ∙ slid_window s content o (get_or crcs k 0) (get_or outs (k * len + at) 0) (get_or nexts (k * len + at) 0) some (are k h) out_is next_is
+    ∙ ap (λ a. crc_of scan a) (let e : o + 1 ≡ start + k * len + (at + 1) = omega arith in e)
+
+-- before any of its windows is examined
+pub at-start : (scan : Scan) (o : ℕ) (rows : List Row) (found : List (Option Position)) (left : ℕ) (filter : Groups) (batch : List Candidate) → IsScannedTo scan o found left filter batch → IsScannedTo scan (o + reached rows 0) found left filter batch
+unfolding reached
+at-start scan o rows found left filter batch at = subst (λ a. IsScannedTo scan a found left filter batch) (let e : o ≡ o + 0 = omega arith in e) at
+
+pub after-row : (rows : List Row) (j : ℕ) → reached rows (j + 1) ≡ (row_at rows j).at + 1
+unfolding reached
+after-row rows j = ap (reached rows) (let e : j + 1 ≡ suc j = omega arith in e)
+
+-- recorded rows are in order
+pub no-earlier : (scan : Scan) (start len count : ℕ) (rows : List Row) → AreCandidateRows scan start len count rows → (j : ℕ) → j < length rows → reached rows j ≤ (row_at rows j).at
+unfolding reached
+no-earlier scan start len count rows are zero h = omega arith
+no-earlier scan start len count rows are (suc j) h = let up : (row_at rows j).at < (row_at rows (suc j)).at = are.rising j (suc j) (omega arith) h in omega (arith, up)
+
+-- the last of them is within the stretch
+pub within-all : (scan : Scan) (start len count : ℕ) (rows : List Row) → AreCandidateRows scan start len count rows → (j : ℕ) → j ≤ length rows → reached rows j ≤ count
+unfolding reached
+within-all scan start len count rows are zero h = omega arith
+within-all scan start len count rows are (suc j) h = let low : (row_at rows j).at < count = are.below j (omega (arith, h)) in omega (arith, low)
+
+-- the windows of stretch k before row j
+pub passed-to-row : (scan : Scan) (start len k j : ℕ) (rows : List Row) (found : List (Option Position)) (left : ℕ) (filter : Groups) (batch : List Candidate) → AreCandidateRows scan start len len rows → k < 4 → j < length rows
+    → IsScannedTo scan (start + k * len + reached rows j) found left filter batch → IsScannedTo scan (start + k * len + (row_at rows j).at) found left filter batch
+passed-to-row scan start len k j rows found left filter batch are stretch h =
+    let low : (row_at rows j).at < len = are.below j h in
+    passed-to scan start len k j (row_at rows j).at rows found left filter batch are stretch (omega (arith, low)) (no-earlier scan start len len rows are j h) (omega (arith, h))
+    (λ i from inside. grind (arith, are.rising j i))
+
+-- the windows of stretch k after all rows
+pub passed-to-end : (scan : Scan) (start len k j : ℕ) (rows : List Row) (found : List (Option Position)) (left : ℕ) (filter : Groups) (batch : List Candidate) → AreCandidateRows scan start len len rows → k < 4 → j ≡ length rows
+    → IsScannedTo scan (start + k * len + reached rows j) found left filter batch → IsScannedTo scan (start + (k + 1) * len) found left filter batch
+passed-to-end scan start len k j rows found left filter batch are stretch all at =
+    let e : start + k * len + len ≡ start + (k + 1) * len = omega arith in
+    subst (λ a. IsScannedTo scan a found left filter batch) e
+    (passed-to scan start len k j len rows found left filter batch are stretch (omega arith) (within-all scan start len len rows are j (omega (arith, all))) (omega (arith, all))
+    (λ i from inside. absurd (omega (arith, all, from, inside))) at)

@@ -1,17 +1,15 @@
 //! Whether files are intact, by their lengths and the checksums of their slices, and which of the candidates is a target's match.
 
-ghost use Rattle.std.specs.Prelude.{◌≡◌, ◌↔◌, ◌≤◌, ◌<◌, ◌+◌, ℕ, List, All, IfOk, IfSome, IsTrue, length};
+ghost use Rattle.std.specs.Prelude.{◌≡◌, ◌↔◌, ◌≤◌, ◌<◌, ◌+◌, ℕ, List, All, IfOk, IsTrue, length};
 ghost use Rattle.std.specs.List.{range_with_len};
-ghost use Rattle.par2_spec.specs.Folders.{Folder};
+ghost use Rattle.std.specs.Option.{ForSome};
+ghost use Rattle.par2_spec.specs.Prelude.{Folder};
 ghost use Rattle.par2_spec.specs.Search as search;
 ghost use Rattle.par2_spec.specs.Sets as sets;
 ghost use Rattle.par2_spec.specs.Slices as slices;
-ghost use Rattle.par2_slices.specs.Intact.{HaveCrc32s, HaveMd5s};
-ghost use Rattle.par2_slices.specs.Matching.{AreFirst, Describe, Describes, IsFirst, NumbersAreNames, first_intact, matched_numbers, without_number};
-ghost use Rattle.par2_slices.specs.Positions.{buffers_of};
+ghost use Rattle.par2_slices.specs.Matching.{HaveCrc32s, HaveMd5s, AreFirst, Describe, Describes, IsFirst, NumbersAreNames, first_intact, matched_numbers, without_number, buffers_of};
 
-use crate::cutting::slice_count;
-use crate::pairs::{Pair, SliceGroup, slice_crc32, slice_md5s};
+use crate::checksum::{Pair, SliceGroup, slice_count, slice_crc32, slice_md5s};
 use par2_md5_lanes::LANES;
 use par2_spec::Result;
 use std::alloc::Global;
@@ -30,9 +28,8 @@ struct Comparison<'a> {
 fn have_crc32s(compared: Comparison) -> bool
     ensures { let its = compared.entry in IsTrue result ↔ HaveCrc32s its.s its.bytes.now its.pairs.now }
 {
-    let Comparison { bytes, s, pairs } = compared;
-    for (j, pair) in pairs.iter().enumerate() {
-        if slice_crc32(bytes, s, j as u64) != pair.1 {
+    for (j, pair) in compared.pairs.iter().enumerate() {
+        if slice_crc32(compared.bytes, compared.s, j as u64) != pair.1 {
             return false;
         }
     }
@@ -45,10 +42,9 @@ fn group_has_md5s(group: SliceGroup, pairs: &[Pair]) -> bool
     ensures { let its = group.entry in
         IsTrue result ↔ HaveMd5s its.s its.bytes.now pairs.now its.first (its.first + its.count) }
 {
-    let SliceGroup { first, count, .. } = group;
     let md5s = slice_md5s(group);
-    for lane in 0..count {
-        if md5s[lane] != pairs[first + lane].0 {
+    for lane in 0..group.count {
+        if md5s[lane] != pairs[group.first + lane].0 {
             return false;
         }
     }
@@ -60,19 +56,16 @@ fn have_md5s(compared: Comparison) -> bool
     ensures { let its = compared.entry in
         IsTrue result ↔ HaveMd5s its.s its.bytes.now its.pairs.now 0 (length its.pairs.now) }
 {
-    let Comparison { bytes, s, pairs } = compared;
-    for group in 0..pairs.len().div_ceil(LANES) {
+    for group in 0..compared.pairs.len().div_ceil(LANES) {
         let first = group * LANES;
-        let count = LANES.min(pairs.len() - first);
-        if !group_has_md5s(
-            SliceGroup {
-                bytes,
-                s,
-                first,
-                count,
-            },
-            pairs,
-        ) {
+        let count = LANES.min(compared.pairs.len() - first);
+        let group = SliceGroup {
+            bytes: compared.bytes,
+            s: compared.s,
+            first,
+            count,
+        };
+        if !group_has_md5s(group, compared.pairs) {
             return false;
         }
     }
@@ -113,11 +106,10 @@ fn numbers_below(alloc: Global, n: usize) -> Result<Vec<usize>>
 // The CRC-32 of the file's first slice, if some target has the length of the file; otherwise no target needs it.
 fn first_crc32(bytes: &[u8], s: u64, targets: &[Target]) -> Option<u32>
     requires { 1 ≤ s }
-    ensures { IfSome result (IsFirst s bytes.now) }
+    ensures { ForSome result (IsFirst s bytes.now) }
 {
-    let is_needed = targets
-        .iter()
-        .any(|target| target.length == bytes.len() as u64);
+    let len = bytes.len() as u64;
+    let is_needed = targets.iter().any(|target| target.length == len);
     if is_needed && !bytes.is_empty() {
         Some(slice_crc32(bytes, s, 0))
     } else {
@@ -144,7 +136,7 @@ fn first_crc32s(
 // read.
 fn is_intact_by(bytes: &[u8], first: Option<u32>, s: u64, target: &Target) -> bool
     requires size { 1 ≤ s }
-    requires first { IfSome first (IsFirst s bytes.now) }
+    requires first { ForSome first (IsFirst s bytes.now) }
     ensures { (t : sets.Target) → Describes target.now t → result ≡ search.is_intact s t bytes.now }
 {
     if let Some(crc) = first {
@@ -162,19 +154,18 @@ struct Candidates<'a> {
     firsts: &'a [Option<u32>],
     s: u64,
     ghost some: { 1 ≤ s },
+    ghost crcs: { AreFirst s (buffers_of buffers.now) firsts.now },
 }
 
 // The number of the first of the free files that is intact for the target. `Describes`: a target has this length
 // and these pairs.
 fn first_intact(files: Candidates, target: &Target, free: &[usize]) -> Option<usize>
-    requires firsts { AreFirst files.s (buffers_of files.buffers.now) files.firsts.now }
-    requires free { All (λ i. i < length files.buffers.now) free.now }
+    requires { All (λ i. i < length files.buffers.now) free.now }
     ensures { (t : sets.Target) → Describes target.now t
         → result ≡ first_intact files.entry.s (buffers_of files.entry.buffers.now) t free.now }
 {
-    let Candidates { buffers, firsts, s } = files;
     for &i in free {
-        if is_intact_by(buffers[i], firsts[i], s, target) {
+        if is_intact_by(files.buffers[i], files.firsts[i], files.s, target) {
             return Some(i);
         }
     }
@@ -183,8 +174,7 @@ fn first_intact(files: Candidates, target: &Target, free: &[usize]) -> Option<us
 
 // Takes the number of the first of the free files that is intact for the target, so that no other target gets it.
 fn take_first(files: Candidates, target: &Target, free: &mut Vec<usize>) -> Option<usize>
-    requires firsts { AreFirst files.s (buffers_of files.buffers.now) files.firsts.now }
-    requires free { All (λ i. i < length files.buffers.now) free.old.items }
+    requires { All (λ i. i < length files.buffers.now) free.old.items }
     ensures first { (t : sets.Target) → Describes target.now t
         → let bytes = buffers_of files.entry.buffers.now in
         result ≡ first_intact files.entry.s bytes t free.old.items }
@@ -207,11 +197,8 @@ pub fn matched(
         → numbers.items ≡ matched_numbers s (buffers_of buffers.now) ts) }
 {
     let firsts = first_crc32s(alloc, buffers, s, targets)?;
-    let files = Candidates {
-        buffers,
-        firsts: &firsts,
-        s,
-    };
+    let firsts = firsts.as_slice();
+    let files = Candidates { buffers, firsts, s };
     let mut free = numbers_below(alloc, buffers.len())?;
     let mut numbers = Vec::with_capacity(alloc, targets.len())?;
     for target in targets {

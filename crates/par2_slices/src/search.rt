@@ -1,29 +1,97 @@
 //! The search for slices in files by their checksums. A pair is open until it is found. `find_among` searches one
 //! buffer after the other (`search_bytes`): windows of long buffers by four stretches side by side, the rest one by
 //! one. A window whose CRC-32 an open pair has becomes a candidate of the batch, whose MD5s are compared later.
+//! A repair takes the bytes of slices in damaged files from the windows that match them (`found_windows`).
+//!
+//! The CRC-32 of a window depends on that of the window before it. Four independent ones take half the time of four in
+//! sequence.
 
-ghost use Rattle.std.specs.Prelude.{None, option_map, ◌≡◌, ◌≤◌, ◌<◌, ◌+◌, ◌*◌, ◌⊎◌, ◌↔◌, [], ℕ, List, IfOk, IfSome, IsTrue, length, map, drop, slice_index};
+ghost use Rattle.std.specs.Prelude.{None, All, option_map, ◌≡◌, ◌≤◌, ◌<◌, ◌+◌, ◌*◌, ◌⊎◌, ◌↔◌, [], ℕ, List, IfOk, IfSome, IsTrue, length, map, drop, slice_index, ◌-◌, min, take};
 ghost use Rattle.std.specs.List.{count_by};
 ghost use Rattle.std.specs.Option.{is_none};
-ghost use Rattle.par2_spec.specs.Answers.{Lists};
-ghost use Rattle.par2_spec.specs.Checksums.{crc32};
-ghost use Rattle.par2_spec.specs.Windows.{first_match, window};
-ghost use Rattle.par2_slices.specs.Rows.{AreCandidateRows};
-ghost use Rattle.par2_slices.specs.Scans.{after_candidates, AreWindows, IsAtWindow, IsSearching, IsTallied, IsWhole};
-ghost use Rattle.par2_slices.specs.Searches.{after_window, candidate_at, has_checksums, is_awaited, answer_at, pair_at, pair_place_at, first_position, AreOpen, ArePlaces, HaveAnswers, IsWaiting};
+ghost use Rattle.par2_spec.specs.Prelude.{Lists, crc32, first_match, found};
+ghost use Rattle.par2_slices.specs.Checksums.{is_awaited, answer_at, after_slide};
+ghost use Rattle.par2_slices.specs.Matching.{AreCandidateRows, IsWindow, IsAtWindow, IsSearching, IsTallied, IsWhole, candidate_at, Follow, first_position, HaveAnswers, IsWaiting, AreShort, IsWithin, padded_window, padded_windows, buffers_of, window_in, window_of, AreCrcs};
+ghost use Rattle.md5.specs.Md5.{md5};
+ghost use Rattle.par2_md5_lanes.specs.Messages.{digest_at};
 
-use crate::batch::{Candidate, Position, batch_md5s};
-use crate::checksum::padded_crc32;
-use crate::filter::{FEW, Filter, MANY};
-use crate::pairs::{Pair, padded_md5};
-use crate::rolling::Rolling;
-use crate::rows::{Row, first_crcs, next_crcs};
-use crate::scan::Scan;
-use crate::wanted_pairs::{PairPlace, Wanted};
+use crate::checksum::{Pair, Rolling, crc32, padded_crc32, padded_md5, window_bytes};
+use crate::wanted::{FEW, Filter, MANY, PairPlace, Wanted};
 use arrayvec::ArrayVec;
-use par2_md5_lanes::LANES;
+use par2_md5_lanes::{LANES, window_digests};
 use par2_spec::Result;
 use std::alloc::Global;
+use std::array;
+
+/// A buffer that is searched for the pairs that weren't found in the buffers before it.
+#[derive(Clone, Copy)]
+struct Scan<'a> {
+    wanted: &'a Wanted,
+    /// The CRC-32s of its windows, and their size.
+    rolling: &'a Rolling,
+    /// The buffers before it. Their number is its index.
+    earlier: &'a [&'a [u8]],
+    bytes: &'a [u8],
+}
+
+impl Scan<'_> {
+    /// The bytes of its window at `offset`. At the end of the buffer they may be fewer than the window's size.
+    fn window(&self, offset: usize) -> &[u8]
+        requires { offset ≤ length self.now.bytes.now }
+        ensures { result.now ≡ take self.now.rolling.now.size (drop offset self.now.bytes.now) }
+    {
+        window_bytes(self.bytes, self.rolling.size(), offset)
+    }
+
+    /// Whether its window at `offset` lies in the buffer entirely.
+    fn is_whole(&self, offset: usize) -> bool
+        requires { offset ≤ length self.now.bytes.now }
+        ensures { IsTrue result ↔ IsWhole self.now offset }
+    {
+        self.rolling.size() <= (self.bytes.len() - offset) as u64
+    }
+}
+
+/// The windows at `at` bytes into each of four stretches, by their CRC-32s.
+#[derive(Clone, Copy, Default, Drop)]
+struct Row {
+    at: usize,
+    crcs: [u32; 4],
+}
+
+/// The CRC-32s of the first windows of four stretches of `LEN` offsets each, from offset `start` on: the first row.
+#[tactic(auto, using(crate::proofs::Matches::whole_window))]
+fn first_crcs<const LEN: usize>(bytes: &[u8], s: u64, start: usize) -> [u32; 4]
+    requires { start + 3 * LEN + s ≤ length bytes.now }
+    ensures { AreCrcs s bytes.now start LEN 0 result }
+{
+    [
+        crc32(window_bytes(bytes, s, start)),
+        crc32(window_bytes(bytes, s, start + LEN)),
+        crc32(window_bytes(bytes, s, start + 2 * LEN)),
+        crc32(window_bytes(bytes, s, start + 3 * LEN)),
+    ]
+}
+
+/// The CRC-32s of the row after this one. `outs` begins where the first stretch does, and `nexts` a window later.
+// The length of a stretch is a constant, so that one register addresses the bytes of all four.
+#[inline(always)]
+fn next_crcs<const LEN: usize>(rolling: &Rolling, row: Row, outs: &[u8], nexts: &[u8]) -> [u32; 4]
+    requires outs { 3 * LEN + row.at < length outs.now }
+    requires nexts { 3 * LEN + row.at < length nexts.now }
+    ensures { (k : ℕ) → k < 4 → slice_index result k ≡ after_slide rolling.now.size
+        (slice_index row.crcs k)
+        (slice_index outs.now (k * LEN + row.at))
+        (slice_index nexts.now (k * LEN + row.at)) }
+{
+    let Row { at, crcs } = row;
+    [
+        rolling.slid(crcs[0], outs[at], nexts[at]),
+        rolling.slid(crcs[1], outs[LEN + at], nexts[LEN + at]),
+        rolling.slid(crcs[2], outs[2 * LEN + at], nexts[2 * LEN + at]),
+        rolling.slid(crcs[3], outs[3 * LEN + at], nexts[3 * LEN + at]),
+    ]
+}
 
 // How many open pairs of the group have this CRC-32. `found` has the position of each pair, None while it is open.
 fn awaited(group: &[PairPlace], crc: u32, found: &[Option<Position>]) -> usize
@@ -42,16 +110,8 @@ fn is_waiting(group: &[PairPlace], crc: u32, found: &[Option<Position>], filter:
     })
 }
 
-// Whether no candidate of the batch has this CRC-32.
-fn is_new(candidates: &[Candidate], crc: u32) -> bool
-    ensures { IsTrue result ↔ ((k : ℕ) → k < length candidates.now
-        → ¬ ((candidate_at candidates.now k).crc ≡ crc)) }
-{
-    candidates.iter().all(|candidate| candidate.crc != crc)
-}
-
 // Records the candidate's position for each open pair that has the candidate's CRC-32 and this MD5, and counts these
-// pairs. `after_window`: an open pair gets the position if it matches, and a found one keeps its own.
+// pairs. `Follow`: an open pair gets the position if it matches, and a found one keeps its own.
 fn answer_pairs(
     wanted: &Wanted,
     candidate: Candidate,
@@ -59,10 +119,7 @@ fn answer_pairs(
     found: &mut Vec<Option<Position>>,
 ) -> usize
     requires { length found.old.items ≡ length wanted.now }
-    ensures each { (i : ℕ) → i < length wanted.now → answer_at found.new.items i
-        ≡ after_window (has_checksums md5.now candidate.crc (pair_at wanted.now i))
-        candidate.position
-        (answer_at found.old.items i) }
+    ensures each { Follow wanted.now md5.now candidate found.old.items found.new.items }
     ensures len { length found.new.items ≡ length found.old.items }
     ensures count { result + count_by is_none found.new.items ≡ count_by is_none found.old.items }
 {
@@ -97,7 +154,7 @@ impl Search {
     // A search before the first buffer: all pairs are open, and their CRC-32s are in the filter.
     fn new(alloc: Global, wanted: &Wanted) -> Result<Search>
         ensures tally { IfOk result (λ search. IsTallied wanted.now search) }
-        ensures open { IfOk result (λ search. AreOpen search.found.items) }
+        ensures open { IfOk result (λ search. (i : ℕ) → answer_at search.found.items i ≡ None) }
         ensures batch { IfOk result (λ search. search.batch.items ≡ []) }
     {
         let pairs = wanted.pairs();
@@ -114,26 +171,16 @@ impl Search {
         })
     }
 
-    // Whether each pair is found.
-    fn is_finished(&self) -> bool
-        ensures { IsTrue result ↔ self.now.left ≡ 0 }
-    {
-        self.left == 0
-    }
-
     // Records the candidate's position for the open pairs that have its CRC-32 and this MD5, and removes the CRC-32
     // from the filter if no open pair shares its bit. `IsTallied`: the count and the filter are those of the open
     // pairs.
-    fn answer(&mut self, wanted: &Wanted, candidate: Candidate, md5: &[u8; 16])
+    fn answer(&mut self, wanted: &Wanted, candidate: Candidate, md5: [u8; 16])
         requires { IsTallied wanted.now self.old }
         ensures tally { IsTallied wanted.now self.new }
-        ensures each { (i : ℕ) → i < length wanted.now → answer_at self.new.found.items i
-            ≡ after_window (has_checksums md5.now candidate.crc (pair_at wanted.now i))
-            candidate.position
-            (answer_at self.old.found.items i) }
+        ensures each { Follow wanted.now md5 candidate self.old.found.items self.new.found.items }
         ensures batch { self.new.batch.items ≡ self.old.batch.items }
     {
-        self.left -= answer_pairs(wanted, candidate, md5, &mut self.found);
+        self.left -= answer_pairs(wanted, candidate, &md5, &mut self.found);
         let crc = candidate.crc;
         if !is_waiting(wanted.group(crc), crc, &self.found, &self.filter) {
             self.filter.remove(crc);
@@ -144,12 +191,8 @@ impl Search {
     // empties it.
     fn compare_batch(&mut self, scan: &Scan)
         requires tally { IsTallied scan.now.wanted.now self.old }
-        requires candidates { AreWindows scan.now self.old.batch.items }
-        ensures tally { IsTallied scan.now.wanted.now self.new }
-        ensures each { (i : ℕ) → i < length scan.now.wanted.now → answer_at self.new.found.items i
-            ≡ after_candidates scan.now
-            (pair_at scan.now.wanted.now i) self.old.batch.items
-            (answer_at self.old.found.items i) }
+        requires candidates { All (IsWindow scan.now) self.old.batch.items }
+        ensures at { (o : ℕ) → IsSearching scan.now o self.old → IsSearching scan.now o self.new }
         ensures batch { self.new.batch.items ≡ [] }
     {
         if self.batch.is_empty() {
@@ -158,9 +201,9 @@ impl Search {
         let batch = self.batch.take();
         self.awaited = 0;
         let candidates = batch.as_slice();
-        let digests = batch_md5s(scan.bytes, scan.rolling.size(), candidates);
+        let digests = batch_md5s(scan, candidates);
         for (k, &candidate) in candidates.iter().enumerate() {
-            self.answer(scan.wanted, candidate, &digests[k]);
+            self.answer(scan.wanted, candidate, digests[k]);
         }
     }
 
@@ -173,7 +216,9 @@ impl Search {
         ensures room { length self.new.batch.items < 16 }
         ensures short { ¬ (IsWhole scan.now offset) → self.new.batch.items ≡ [] }
     {
-        if !scan.is_whole(offset) || self.batch.is_full() || !is_new(self.batch.as_slice(), crc) {
+        let batch = self.batch.as_slice();
+        let is_known = batch.iter().any(|candidate| candidate.crc == crc);
+        if !scan.is_whole(offset) || is_known || self.batch.is_full() {
             self.compare_batch(scan);
         }
     }
@@ -193,7 +238,7 @@ impl Search {
         let candidate = Candidate { position, crc };
         if !scan.is_whole(offset) {
             let md5 = padded_md5(scan.window(offset), scan.rolling.size());
-            self.answer(scan.wanted, candidate, &md5);
+            self.answer(scan.wanted, candidate, md5);
             return;
         }
         self.batch.push(candidate);
@@ -333,7 +378,7 @@ impl Search {
         ensures at { IsSearching scan.now result self.new }
     {
         let mut offset = start;
-        while !self.is_finished() && is_fit(scan.bytes.len() - offset, scan.rolling.size(), LEN) {
+        while self.left > 0 && is_fit(scan.bytes.len() - offset, scan.rolling.size(), LEN) {
             self.search_four::<LEN>(scan, offset);
             offset += 4 * LEN;
         }
@@ -351,7 +396,7 @@ impl Search {
         let incoming = &bytes[(rolling.size() as usize).min(bytes.len())..];
         let mut crc = padded_crc32(scan.window(start), rolling.size());
         for offset in start..end {
-            if self.is_finished() {
+            if self.left == 0 {
                 break;
             }
             self.test(scan, offset, crc);
@@ -367,7 +412,7 @@ impl Search {
         ensures at { IsSearching scan.now (length scan.now.bytes.now) self.new }
         ensures empty { self.new.batch.items ≡ [] }
     {
-        if self.is_finished() {
+        if self.left == 0 {
             return;
         }
         // No length is a multiple of a page; otherwise all four stretches would compete for the same few lines of the
@@ -409,8 +454,7 @@ pub fn find_among(
     wanted: &Wanted,
 ) -> Result<Vec<Option<Position>>>
     requires { 1 ≤ s }
-    ensures { Lists (map (first_position s (map (λ buffer. buffer.now) buffers.now)) wanted.now)
-        result }
+    ensures { Lists (map (first_position s (buffers_of buffers.now)) wanted.now) result }
 {
     let rolling = Rolling::new(alloc, s)?;
     let mut search = Search::new(alloc, wanted)?;
@@ -425,18 +469,12 @@ pub fn find_among(
     Ok(search.found)
 }
 
-// The offset of a position, which `find` needs because it has only one buffer.
-fn offset_of(position: &Option<Position>) -> Option<usize>
-    ensures { result ≡ option_map (λ position. position.offset) position.now }
-{
-    position.map(|position| position.offset)
-}
-
 // The offsets of positions, for `find`.
 fn offsets_of(alloc: Global, positions: &[Option<Position>]) -> Result<Vec<Option<usize>>>
     ensures { Lists (map (option_map (λ position. position.offset)) positions.now) result }
 {
-    positions.iter().map(offset_of).collect(alloc)
+    let offsets = positions.iter().map(|at| at.map(|at| at.offset));
+    offsets.collect(alloc)
 }
 
 /// For each pair the least offset at which the window of `s` bytes matches it; None if there is none. A window that
@@ -447,4 +485,76 @@ pub fn find(alloc: Global, bytes: &[u8], s: u64, wanted: &Wanted) -> Result<Vec<
 {
     let positions = find_among(alloc, &[bytes], s, wanted)?;
     offsets_of(alloc, &positions)
+}
+
+/// The start of a window: the index of its buffer among those searched, and the offset there.
+#[derive(Clone, Copy, Default, Debug, Drop)]
+pub struct Position {
+    pub buffer: usize,
+    pub offset: usize,
+}
+
+/// A window that a search has still to compare, because an open pair has its CRC-32.
+#[derive(Clone, Copy, Default, Drop)]
+pub(crate) struct Candidate {
+    pub(crate) position: Position,
+    pub(crate) crc: u32,
+}
+
+// The offset of candidate k, or 0 for an unused lane.
+fn start(batch: &[Candidate], k: usize) -> usize
+    ensures { result ≡ (candidate_at batch.now k).position.offset }
+{
+    batch.get(k).copied().unwrap_or_default().position.offset
+}
+
+// The offsets of the candidates, one for each lane.
+fn starts(batch: &[Candidate]) -> [usize; LANES]
+    ensures { (k : ℕ) → k < 16 → slice_index result k ≡ (candidate_at batch.now k).position.offset }
+{
+    array::from_fn(|k| start(batch, k))
+}
+
+// The MD5s of the candidates' windows, in order. Lanes after the last candidate have no meaning.
+fn batch_md5s(scan: &Scan, batch: &[Candidate]) -> [[u8; 16]; LANES]
+    requires some { 1 ≤ length batch.now }
+    requires fit { length batch.now ≤ 16 }
+    requires windows { All (IsWindow scan.now) batch.now }
+    ensures { (k : ℕ) → k < length batch.now
+        → digest_at result k ≡ md5 (window_of scan.now (candidate_at batch.now k).position.offset) }
+{
+    let size = scan.rolling.size() as usize;
+    window_digests(scan.bytes, &starts(batch), batch.len(), size)
+}
+
+// The window of `s` bytes at a position, if there is one; shorter if it reaches past the end of its buffer.
+fn window_at<'a>(buffers: &[&'a [u8]], s: u64, at: Option<Position>) -> Option<&'a [u8]>
+    requires { IfSome at (IsWithin (buffers_of buffers.now)) }
+    ensures value { padded_window s result ≡ option_map (window_in s (buffers_of buffers.now)) at }
+    ensures short { IfSome result (λ bytes. length bytes.now ≤ s) }
+{
+    let Position { buffer, offset } = at?;
+    Some(window_bytes(buffers[buffer], s, offset))
+}
+
+/// For each pair the first window of `s` bytes that matches it, by file and then by offset; None if there is none. If a
+/// window reaches past the end of its file, the zeros after the end are left out.
+pub fn found_windows<'a>(
+    alloc: Global,
+    buffers: &[&'a [u8]],
+    s: u64,
+    pairs: &[Pair],
+) -> Result<Vec<Option<&'a [u8]>>>
+    requires { 1 ≤ s }
+    ensures first { IfOk result (λ windows.
+        padded_windows s windows.items ≡ map (found s (buffers_of buffers.now)) pairs.now) }
+    ensures short { IfOk result (λ windows. AreShort s windows.items) }
+{
+    let wanted = Wanted::new(alloc, pairs)?;
+    let positions = find_among(alloc, buffers, s, &wanted)?;
+    let mut windows = Vec::with_capacity(alloc, positions.len())?;
+    for position in &positions {
+        windows.push(window_at(buffers, s, *position))?;
+    }
+    Ok(windows)
 }

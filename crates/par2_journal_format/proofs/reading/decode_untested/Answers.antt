@@ -1,17 +1,12 @@
-use Rattle.std.proofs.Common.{rules}
-use Rattle.par2_journal_format.proofs.Common.{◌≤◌, ◌<◌, ◌^◌, ◌∙◌, length, arith, err_from_is_err_and, parts_at, journal_of, all_from}
-use Rattle.par2_journal_format.proofs.Whole.{spells_sealed, refused, sealed, too_short, unread, untested}
+use Rattle.par2_journal_format.proofs.Common.{rules, inr, refl, ◌≤◌, ◌<◌, ◌^◌, ◌∙◌, length, arith, err_from_is_err_and, journal_of, all_from}
+use Rattle.par2_journal_format.proofs.Whole.{refused, sealed, spells_sealed, too_short, untested}
 use Rattle.par2_journal_format.proofs.reading.decode_untested.Goals as goal
 
-pub returns-in_default-clause-invalid : goal.returns-in_default-clause-invalid
-returns-in_default-clause-invalid c = λ _ j spells. too_short c.args.bytes.now (rw c.in_default.is at c.split_last_chunk.ensures.cases) (spells_sealed c.args.bytes.now j spells)
-
-pub returns-in_err-journal-clause-invalid : goal.returns-in_err-journal-clause-invalid
-returns-in_err-journal-clause-invalid c = λ e j spells.
+pub returns-in_err-journal-clause-refused : goal.returns-in_err-journal-clause-refused
+returns-in_err-journal-clause-refused c =
     let split = c.in-Some.ensures.cases in
-    let residual = c.from_residual in
-    let none = refused c.in_err-journal.field-0.0 residual.result (parts_at c.in-Some.body.now) c.in_err-journal.ensures (err_from_is_err_and residual.result residual.ensures.1) e in
-    unread c.args.bytes.now c.in-Some.body.now c.in-Some.digest.now (omega (arith, split.2)) split.0 split.1 none j spells
+    let p = err_from_is_err_and c.from_residual.result c.from_residual.ensures.1 in
+    rw (p.1, p.2) (refused c.args.bytes.now c.in-Some.body.now c.in-Some.digest.now (omega (arith, split.2)) split.0 split.1 c.in_err-journal.field-0.0 c.in_err-journal.ensures)
 
 pub returns-clause-found : goal.returns-clause-found
 returns-clause-found c =

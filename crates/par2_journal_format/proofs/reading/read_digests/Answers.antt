@@ -1,4 +1,4 @@
-use Rattle.par2_journal_format.proofs.Common.{err_from_is_err_and, block_at}
+use Rattle.par2_journal_format.proofs.Common.{◌≡◌, ◌++◌, ◌∷◌, [], arith, err_from_is_err_and, block_at}
 use Rattle.par2_journal_format.proofs.Fields.{goes_on, stops, ends}
 use Rattle.par2_journal_format.proofs.reading.read_digests.Goals as goal
 
@@ -9,7 +9,8 @@ returns-in_err-digest c =
 
 pub loop-preserved : goal.loop-preserved
 loop-preserved c =
-    rw c.in_ok-push.ensures.items (goes_on (block_at 16) c.args.count c.args.bytes.now c.loop.digests.items c.loop.counter c.loop.rest.now c.in_ok-digest.digest c.in_ok-digest.behind.now c.loop-test.true c.in_ok-digest.ensures c.loop.invariant)
+    let items : c.push-pushed.new.self.items ≡ c.loop.digests.items ++ c.in_ok-digest.digest ∷ [] = grind (arith, c.push-pushed.ensures.items, c.map_err.ensures.cases, c.in_ok-map_err.was) in
+    rw items (goes_on (block_at 16) c.args.count c.args.bytes.now c.loop.digests.items c.loop.counter c.loop.rest.now c.in_ok-digest.digest c.in_ok-digest.behind.now c.loop-test.true c.in_ok-digest.ensures c.loop.invariant)
 
 pub returns : goal.returns
 returns c = ends (block_at 16) c.args.count c.args.bytes.now c.loop.digests.items c.loop.counter c.loop.rest.now c.loop-test.false c.loop.invariant

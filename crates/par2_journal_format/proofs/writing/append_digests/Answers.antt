@@ -1,5 +1,4 @@
-use Rattle.std.proofs.Common.{rules}
-use Rattle.par2_journal_format.proofs.Common.{[], all_from, IsDigest}
+use Rattle.par2_journal_format.proofs.Common.{rules, [], all_from, IsDigest}
 use Rattle.par2_journal_format.proofs.writing.append_digests.Goals as goal
 
 pub returns-clause-digests : goal.returns-clause-digests

@@ -1,6 +1,6 @@
 use Rattle.par2_journal_format.proofs.Common.{None, journal_from}
-use Rattle.par2_journal_format.proofs.Fronts.{spelled}
+use Rattle.par2_journal_format.proofs.Whole.{finished}
 use Rattle.par2_journal_format.proofs.writing.encode.Goals as goal
 
 pub returns : goal.returns
-returns c = spelled c.in_ok-begin.field-0.items None c.in_ok-bytes.bytes.items c.in_ok-bytes.ensures _ c.in_ok-append_digest.ensures (journal_from c.args.parts.now) c.in_ok-begin.ensures
+returns c = finished c.in_ok-begin.field-0.items None c.in_ok-bytes.bytes.items c.in_ok-bytes.ensures _ c.in_ok-append_digest.ensures (journal_from c.args.parts.now) c.in_ok-begin.ensures

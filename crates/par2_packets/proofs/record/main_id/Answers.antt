@@ -4,7 +4,7 @@ use Rattle.par2_packets.proofs.record.main_id.Goals as goal
 
 pub loop-file-init : goal.loop-file-init
 loop-file-init c =
-    let said : c.u64_bytes.result ++ c.u32_bytes.result ≡ to_le_bytes w64 c.args.s ++ to_le_bytes w32 (length c.args.files.now) = search rules in
+    let said : c.to_le_bytes.result ++ c.to_le_bytes-2.result ≡ to_le_bytes w64 c.args.s ++ to_le_bytes w32 (length c.args.files.now) = search rules in
     subst (Holds c.update-2.new.self) said (c.update-2.ensures _ (c.update.ensures _ c.new-hasher.ensures))
 
 pub loop-file-preserved : goal.loop-file-preserved

@@ -1,43 +1,33 @@
 use Rattle.par2_packets.proofs.Common.{◌≡◌, ◌+◌, ◌-◌, ◌≤◌, ℕ, List, [], length, drop, true, false, ap, sym, ◌∙◌, arith, rest_of, packet_view}
 use Rattle.std.proofs.Common.{length-drop}
 use Rattle.par2_spec.specs.Packets as packets
-use Rattle.par2_packets.proofs.Finding.{begun, body_length, front, found, not_here, passed_to, magic_within, nothing}
+use Rattle.par2_packets.proofs.Finding.{begun, body_length, found, not_here, passed_to, magic_within, nothing}
 use Rattle.par2_packets.proofs.scan.next_packet.Goals as goal
 
-pub first_packet-packet-requires-clause-low : goal.first_packet-packet-requires-clause-low
-first_packet-packet-requires-clause-low c =
-    (begun _ (front _ _ _ _ c.rest-then-begins_with_packet.ensures c.begins_with_packet.ensures.kept c.begins_with_packet.ensures.begins c.if-begins_with_packet.true)).1
+pub advance-requires-in-Some-packet_at : goal.advance-requires-in-Some-packet_at
+advance-requires-in-Some-packet_at c =
+    let here : List ℕ = rest_of c.advance.new.self in
+    let begins : packets.begins_with_packet here ≡ true = sym c.in-Some-packet_at.ensures.begins in
+    let size = body_length here (packet_view c.in-Some-packet_at.packet) begins c.in-Some-packet_at.ensures.first in
+    omega (arith, size, (begun here begins).2, ap length c.in-Some-packet_at.ensures.kept)
 
-pub first_packet-packet-requires-clause-high : goal.first_packet-packet-requires-clause-high
-first_packet-packet-requires-clause-high c =
-    (begun _ (front _ _ _ _ c.rest-then-begins_with_packet.ensures c.begins_with_packet.ensures.kept c.begins_with_packet.ensures.begins c.if-begins_with_packet.true)).2
-
-pub advance-requires-then-begins_with_packet : goal.advance-requires-then-begins_with_packet
-advance-requires-then-begins_with_packet c =
-    let here : List ℕ = c.rest-then-begins_with_packet.result.now in
-    let begins : packets.begins_with_packet here ≡ true = front _ _ _ _ c.rest-then-begins_with_packet.ensures c.begins_with_packet.ensures.kept c.begins_with_packet.ensures.begins c.if-begins_with_packet.true in
-    let size : 64 + length c.first_packet-packet.result.body.now ≡ packets.claimed_length here = body_length here (packet_view c.first_packet-packet.result) begins c.first_packet-packet.ensures in
-    let most : packets.claimed_length here ≤ length here = (begun here begins).2 in
-    omega (arith, size, most, ap length c.rest-then-begins_with_packet.ensures)
-
-pub returns-then-begins_with_packet : goal.returns-then-begins_with_packet
-returns-then-begins_with_packet c =
+pub returns-in-Some-packet_at : goal.returns-in-Some-packet_at
+returns-in-Some-packet_at c =
     let bytes : List ℕ = c.rest.result.now in
-    let here : List ℕ = c.rest-then-begins_with_packet.result.now in
-    let begins : packets.begins_with_packet here ≡ true = front _ _ _ _ c.rest-then-begins_with_packet.ensures c.begins_with_packet.ensures.kept c.begins_with_packet.ensures.begins c.if-begins_with_packet.true in
-    let at : here ≡ drop c.in-Some.place bytes = c.rest-then-begins_with_packet.ensures ∙ c.begins_with_packet.ensures.kept ∙ c.advance.ensures ∙ ap (drop c.in-Some.place) (sym c.rest.ensures) in
-    let past : List ℕ = rest_of c.advance-then-begins_with_packet.new.self in
-    let behind : past ≡ drop (64 + length c.first_packet-packet.result.body.now) here =
-    c.advance-then-begins_with_packet.ensures ∙ ap (drop (64 + length c.first_packet-packet.result.body.now)) (sym c.rest-then-begins_with_packet.ensures) in
+    let here : List ℕ = rest_of c.advance.new.self in
+    let size : ℕ = 64 + length c.in-Some-packet_at.packet.body.now in
+    let at : here ≡ drop c.in-Some.place bytes = c.advance.ensures ∙ ap (drop c.in-Some.place) (sym c.rest.ensures) in
+    let past : List ℕ = rest_of c.advance-in-Some-packet_at.new.self in
+    let behind : past ≡ drop size here = c.advance-in-Some-packet_at.ensures ∙ ap (drop size) c.in-Some-packet_at.ensures.kept in
     sym c.loop-place.invariant ∙ ap packets.accepted (sym c.rest.ensures) ∙ sym (passed_to bytes _ here c.in-Some.place c.new-finder.ensures c.in-Some.ensures.0 at)
-    ∙ found here (packet_view c.first_packet-packet.result) past begins c.first_packet-packet.ensures behind
+    ∙ found here (packet_view c.in-Some-packet_at.packet) past (sym c.in-Some-packet_at.ensures.begins) c.in-Some-packet_at.ensures.first behind
 
 pub loop-place-smaller : goal.loop-place-smaller
 loop-place-smaller c =
-    let here : List ℕ = rest_of c.begins_with_packet.new.cursor in
+    let here : List ℕ = rest_of c.packet_at.new.cursor in
     let fewer : length (rest_of c.advance-in-Some.new.self) ≡ length here - 1 = ap length c.advance-in-Some.ensures ∙ length-drop 1 here in
     let most : length here ≡ length (rest_of c.loop-place.cursor) - c.in-Some.place =
-    ap length c.begins_with_packet.ensures.kept ∙ ap length c.advance.ensures ∙ length-drop c.in-Some.place (rest_of c.loop-place.cursor) in
+    ap length c.packet_at.ensures.kept ∙ ap length c.advance.ensures ∙ length-drop c.in-Some.place (rest_of c.loop-place.cursor) in
     let within : c.in-Some.place + 8 ≤ length c.rest.result.now = magic_within c.rest.result.now _ c.in-Some.place c.new-finder.ensures c.in-Some.ensures.1 in
     let all : length c.rest.result.now ≡ length (rest_of c.loop-place.cursor) = ap length c.rest.ensures in
     omega (arith, fewer, most, all, within)
@@ -45,10 +35,10 @@ loop-place-smaller c =
 pub loop-place-preserved : goal.loop-place-preserved
 loop-place-preserved c =
     let bytes : List ℕ = c.rest.result.now in
-    let here : List ℕ = rest_of c.begins_with_packet.new.cursor in
-    let none : packets.begins_with_packet here ≡ false =
-    ap packets.begins_with_packet c.begins_with_packet.ensures.kept ∙ sym c.begins_with_packet.ensures.begins ∙ c.if-begins_with_packet.false in
-    let at : here ≡ drop c.in-Some.place bytes = c.begins_with_packet.ensures.kept ∙ c.advance.ensures ∙ ap (drop c.in-Some.place) (sym c.rest.ensures) in
+    let here : List ℕ = rest_of c.packet_at.new.cursor in
+    let kept = c.packet_at.ensures.kept in
+    let none : packets.begins_with_packet here ≡ false = ap packets.begins_with_packet kept ∙ sym c.in_default-packet_at.ensures.begins in
+    let at : here ≡ drop c.in-Some.place bytes = kept ∙ c.advance.ensures ∙ ap (drop c.in-Some.place) (sym c.rest.ensures) in
     not_here here (rest_of c.advance-in-Some.new.self) none c.advance-in-Some.ensures
     ∙ passed_to bytes _ here c.in-Some.place c.new-finder.ensures c.in-Some.ensures.0 at ∙ ap packets.accepted c.rest.ensures ∙ c.loop-place.invariant
 

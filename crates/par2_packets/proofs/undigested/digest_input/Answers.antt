@@ -1,4 +1,4 @@
-use Rattle.par2_packets.proofs.LaterDigests.{part_from}
+use Rattle.par2_packets.proofs.Pieces.{part_from}
 use Rattle.par2_packets.proofs.undigested.digest_input.Goals as goal
 
 pub returns : goal.returns

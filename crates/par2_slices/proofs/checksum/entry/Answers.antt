@@ -1,4 +1,4 @@
-use Rattle.par2_slices.proofs.Entries.{entry_is}
+use Rattle.par2_slices.proofs.Checksums.{entry_is}
 use Rattle.par2_slices.proofs.checksum.entry.Goals as goal
 
 pub returns : goal.returns

@@ -1,4 +1,4 @@
-use Rattle.par2_slices.proofs.Bytes.{by_four_tables}
+use Rattle.par2_slices.proofs.Checksums.{by_four_tables}
 use Rattle.par2_slices.proofs.checksum.four_later.Goals as goal
 
 pub returns : goal.returns

@@ -1,4 +1,4 @@
-use Rattle.par2_slices.proofs.Shifts.{zeros_behind}
+use Rattle.par2_slices.proofs.Checksums.{zeros_behind}
 use Rattle.par2_slices.proofs.checksum.padded_crc32.Goals as goal
 
 pub returns : goal.returns

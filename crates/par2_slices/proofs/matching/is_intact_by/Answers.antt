@@ -1,4 +1,4 @@
-use Rattle.par2_slices.proofs.Common.{◌≡◌, ◌<◌, ◌∙◌, List, length, sym, ap, subst, rules, IfSome, Pair, pair_at, IsFirst}
+use Rattle.par2_slices.proofs.Common.{◌≡◌, ◌<◌, ◌∙◌, List, length, sym, ap, subst, rules, Pair, pair_at, IsFirst}
 use Rattle.par2_slices.proofs.Comparisons.{not_intact_by_first}
 use Rattle.par2_slices.proofs.matching.is_intact_by.Goals as goal
 
@@ -7,7 +7,7 @@ returns-then-target-crc c t h =
     let s = c.args.s in
     let bytes = c.args.bytes.now in
     let pairs : List Pair = c.args.target.now.pairs.now in
-    let first : IsFirst s bytes c.in-Some.crc = subst (λ f. IfSome f (IsFirst s bytes)) c.in-Some.is c.requires.first in
+    let first : IsFirst s bytes c.in-Some.crc = c.requires.first c.in-Some.crc c.in-Some.is in
     let some : 0 < length pairs = search rules in
     sym (not_intact_by_first s t bytes c.requires.size first.some (subst (λ ps. 0 < length ps) (sym h.pairs) some)
     (λ same.

@@ -26,17 +26,17 @@ loop-place-preserved c =
       | then-is_awaited+then-eq w ↦ (
           let items : c.if-is_awaited.found.items ≡ set found place.index (Some position) = ap (λ v. v.items) w.found-is in
           let awaited = and_parts (place.crc == crc) (is_none (answer_at found place.index)) (sym pending ∙ w.if-is_awaited.true) in
-          let matched : has_checksums md5 crc pair ≡ true = has_is pair md5 crc (its.crc ∙ eqb-true _ _ awaited.0) (sym read ∙ sym w.eq.ensures ∙ w.if-eq.true) in
-          moved _ _ items w.count-is (one_settled pairs md5 crc position old group n found count c.loop-place.invariant c.requires its.within (none_from (answer_at found place.index) awaited.1) matched)
+          let matched : has_checksums md5 crc pair ≡ true = has_is pair md5 crc (its.1 ∙ eqb-true _ _ awaited.0) (sym read ∙ sym w.eq.ensures ∙ w.if-eq.true) in
+          moved _ _ items w.count-is (one_settled pairs md5 crc position old group n found count c.loop-place.invariant c.requires its.0 (none_from (answer_at found place.index) awaited.1) matched)
           )
       | else-is_awaited w ↦ (
           let items : c.if-is_awaited.found.items ≡ found = ap (λ v. v.items) w.found-is in
           let stays : (answer_at found place.index ≡ None → has_checksums md5 crc pair ≡ false) → After c.if-is_awaited.found.items c.if-is_awaited.count = λ fails.
-          moved _ _ items w.count-is (not_settled pairs md5 crc position old group n found count c.loop-place.invariant its.within fails)
+          moved _ _ items w.count-is (not_settled pairs md5 crc position old group n found count c.loop-place.invariant its.0 fails)
           in
           elim w.else-is_awaited.branch [
             | else-is_awaited-via-then-is_awaited+else-eq w' ↦ stays (λ none. no_md5 pair md5 crc (sym read ∙ sym w'.eq.ensures ∙ w'.if-eq.false))
-            | else-is_awaited-via-else-is_awaited w' ↦ stays (not_awaited crc found place pair md5 its.crc (sym pending ∙ w'.if-is_awaited.false))
+            | else-is_awaited-via-else-is_awaited w' ↦ stays (not_awaited crc found place pair md5 its.1 (sym pending ∙ w'.if-is_awaited.false))
           ]
           )
     ]

@@ -1,7 +1,6 @@
 use Rattle.par2_md5_lanes.proofs.Common.{◌*◌, ◌+◌, ◌-◌, ◌∙◌, ℕ, List, ap, arith, refl, drop, length, take, block_words, slice_index, lane, hash_behind, buffer_at}
-use Rattle.par2_md5_lanes.proofs.BlockLaws.{after_words}
-use Rattle.par2_md5_lanes.proofs.FeedLaws.{hash_one_more}
-use Rattle.par2_md5_lanes.proofs.SixteenLaws.{bytes_of_high, bytes_of_low, have_fewer, have_high, have_low}
+use Rattle.par2_md5_lanes.proofs.BlockLaws.{after_words, hash_one_more}
+use Rattle.par2_md5_lanes.proofs.LaneLaws.{bytes_of_high, bytes_of_low, have_fewer, have_high, have_low}
 use Rattle.par2_md5_lanes.proofs.blocks.SixteenHashes.absorbed.Goals as goal
 
 pub read_words-low-requires : goal.read_words-low-requires
@@ -26,11 +25,11 @@ loop-block-preserved c =
     let words = λ (bytes : List ℕ). block_words (take 64 (drop (64 * block) bytes)) 16 in
     record {
       low = λ k low.
-          after_words _ _ _ _ (take 64 (drop (64 * block) (buffer_at buffers k))) _ (c.both_compressed.ensures.low k low) (held.low k low)
+          after_words _ _ _ _ (take 64 (drop (64 * block) (buffer_at buffers k))) _ (c.both_compressed-after.ensures.low k low) (held.low k low)
           (c.read_words-low.ensures k low ∙ ap words (bytes_of_low buffers k low))
-          (hash_one_more (lane slice_index k c.args.self.low) (buffer_at buffers k) block);
+          (hash_one_more (lane slice_index k c.args.self.0) (buffer_at buffers k) block);
       high = λ k low.
-          after_words _ _ _ _ (take 64 (drop (64 * block) (buffer_at buffers (8 + k)))) _ (c.both_compressed.ensures.high k low) (held.high k low)
+          after_words _ _ _ _ (take 64 (drop (64 * block) (buffer_at buffers (8 + k)))) _ (c.both_compressed-after.ensures.high k low) (held.high k low)
           (c.read_words-high.ensures k low ∙ ap words (bytes_of_high buffers (length buffers - 8) k (omega (arith, low, c.requires.enough))))
-          (hash_one_more (lane slice_index k c.args.self.high) (buffer_at buffers (8 + k)) block);
+          (hash_one_more (lane slice_index k c.args.self.1) (buffer_at buffers (8 + k)) block);
     }

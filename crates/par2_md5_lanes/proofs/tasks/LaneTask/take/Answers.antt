@@ -1,5 +1,5 @@
 use Rattle.par2_md5_lanes.proofs.Common.{◌≤◌, ◌*◌, ◌∙◌, ap, arith, length, length-append, length-drop, refl, take, take-take, at_hand, bytes_left, message_of}
-use Rattle.par2_md5_lanes.proofs.TaskLaws.{blocks_more, left_blocks}
+use Rattle.par2_md5_lanes.proofs.BlockLaws.{blocks_more}
 use Rattle.par2_md5_lanes.proofs.tasks.LaneTask.take.Goals as goal
 
 pub returns-in-None-clause-progress : goal.returns-in-None-clause-progress
@@ -7,7 +7,7 @@ returns-in-None-clause-progress c hash =
     let task = c.args.self.now in
     let bytes = bytes_left task.feed in
     let n = c.args.count in
-    let there : n * 64 ≤ length (at_hand task.feed) = left_blocks task.hash (at_hand task.feed) n c.in-None.is c.requires.blocks in
+    let there : n * 64 ≤ length (at_hand task.feed) = c.requires.blocks c.in-None.is in
     let room : n * 64 ≤ length bytes = omega (arith, there, length-append (at_hand task.feed) (message_of task.feed.parts.now)) in
     let taken = c.take_at_hand in
     record {

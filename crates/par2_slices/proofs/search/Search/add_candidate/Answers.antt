@@ -1,5 +1,5 @@
 use Rattle.par2_slices.proofs.Common.{◌≡◌, ◌∙◌, ◌+◌, ℕ, List, true, false, ap₂, sym, subst, md5, padded, Candidate, IsScannedTo}
-use Rattle.par2_slices.proofs.Searching.{compared, emptied, pushed}
+use Rattle.par2_slices.proofs.Searching.{compared, pushed}
 use Rattle.par2_slices.proofs.search.Search.add_candidate.Goals as goal
 use Rattle.par2_slices.proofs.search.Search.add_candidate.Goals.{After-push}
 
@@ -23,11 +23,7 @@ pushed_at c =
     (pushed scan c.args.offset c.args.crc before.found.items before.left before.filter before.batch.items c.requires.window.at (c.is_whole.ensures.0 c.if-not-is_whole.false) c.requires.window.crc)
 
 pub returns-then-self : goal.returns-then-self
-returns-then-self c =
-    let before = c.args.self.now in
-    let after = c.compare_batch.new.self in
-    emptied c.args.scan.now (c.args.offset + 1) before.found.items after.found.items before.left after.left before.filter after.filter c.push.new.self.items after.batch.items
-    (pushed_at (goal.at.returns-then-self c).After-push) c.compare_batch.ensures.tally c.compare_batch.ensures.batch c.compare_batch.ensures.each
+returns-then-self c = c.compare_batch.ensures.at (c.args.offset + 1) (pushed_at (goal.at.returns-then-self c).After-push)
 
 pub returns-else-self : goal.returns-else-self
 returns-else-self c = pushed_at (goal.at.returns-else-self c).After-push

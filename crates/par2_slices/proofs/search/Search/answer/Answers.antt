@@ -11,7 +11,7 @@ tally_with : (c : After-is_waiting) (after : Groups)
     → ((other : ℕ) → Includes after other → AreAlike c.args.self.now.filter.shift c.args.candidate.crc other → IsOfOpenPair c.args.self.now.filter.shift c.args.wanted.now c.answer_pairs.new.found.items other)
     → IsTally c.args.wanted.now c.answer_pairs.new.found.items (c.args.self.now.left - c.answer_pairs.result) after
 tally_with c after keeps shift fewer pending =
-    tally_settled c.args.wanted.now c.args.md5.now c.args.candidate.crc c.args.candidate.position c.args.self.now.found.items c.answer_pairs.new.found.items c.args.self.now.left c.answer_pairs.result c.args.self.now.filter after c.requires
+    tally_settled c.args.wanted.now c.args.md5 c.args.candidate.crc c.args.candidate.position c.args.self.now.found.items c.answer_pairs.new.found.items c.args.self.now.left c.answer_pairs.result c.args.self.now.filter after c.requires
     c.answer_pairs.ensures.len (λ i h. inr (c.answer_pairs.ensures.each i h)) c.answer_pairs.ensures.count keeps shift fewer pending
 
 pub returns-then-not-is_waiting-clause-tally : goal.returns-then-not-is_waiting-clause-tally

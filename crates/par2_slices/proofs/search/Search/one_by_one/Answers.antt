@@ -1,7 +1,7 @@
 use Rattle.par2_slices.proofs.Common.{◌≡◌, ◌∙◌, ◌+◌, ◌-◌, ◌≤◌, ℕ, List, get_or, refl, ap, subst, arith, get_or-drop, drop, length, rules, take, IsScannedTo}
 use Rattle.std.proofs.lemmas.List.{drop_min, take_rest}
 use Rattle.par2_slices.proofs.Searching.{none_left}
-use Rattle.par2_slices.proofs.NextWindows.{slid_window}
+use Rattle.par2_slices.proofs.Checksums.{slid_window}
 use Rattle.par2_slices.proofs.search.Search.one_by_one.Goals as goal
 
 pub loop-offset-preserved : goal.loop-offset-preserved
@@ -17,10 +17,10 @@ loop-offset-preserved c =
       value = c.slid-crc.ensures ∙ slid_window s content o c.loop-offset.crc (get_or content o 0) next (subst (λ (s : ℕ). 1 ≤ s) c.size.ensures.value c.size.ensures.some) c.loop-offset.invariant.value refl next_is;
     }
 
-pub returns-then-is_finished : goal.returns-then-is_finished
-returns-then-is_finished c =
+pub returns-then-self-eq0 : goal.returns-then-self-eq0
+returns-then-self-eq0 c =
     let search = c.loop-offset.self in
     let o : ℕ = c.loop-offset.offset in
     let end : ℕ = c.args.end in
     subst (λ (o : ℕ). IsScannedTo c.args.scan.now o search.found.items search.left search.filter search.batch.items) (let e : o + (end - o) ≡ end = omega (arith, c.loop-offset-test.true) in e)
-    (none_left c.args.scan.now o (end - o) search.found.items search.left search.filter search.batch.items c.loop-offset.invariant.at (c.is_finished.ensures.0 c.if-is_finished.true))
+    (none_left c.args.scan.now o (end - o) search.found.items search.left search.filter search.batch.items c.loop-offset.invariant.at c.if-self-eq0.true)

@@ -1,5 +1,0 @@
-use Rattle.par2_slices.proofs.Common.{◌++◌, ◌*◌, replicate, Holds}
-use Rattle.par2_slices.proofs.pairs.padded_md5.Given as goal
-
-abbrev pub invariant-loop : goal.invariant-loop
-invariant-loop l = Holds l.hasher (l.bytes ++ replicate (l.counter * 1024) 0)

@@ -1,5 +1,0 @@
-use Rattle.par2_slices.proofs.Common.{◌≡◌, ◌+◌, first_pairs}
-use Rattle.par2_slices.proofs.pairs.push_group.Given as goal
-
-abbrev pub invariant-loop-k : goal.invariant-loop-k
-invariant-loop-k l = l.pairs.items ≡ first_pairs l.s l.bytes (l.first + l.k)
