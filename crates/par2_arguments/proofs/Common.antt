@@ -13,6 +13,5 @@ unfoldable pub use Rattle.clap.proofs.OnLiterals.{clap_on_literals}
 pub use Rattle.clap.specs.Simple.{app_of_fields, argument_words, entered, label_of, names_of, rows_at}
 pub use Rattle.clap.specs.Words.{AddsArg, AddsSubcommand, App, HasMatchesOf, ReadsOne, Row, Rule, Shape, Text, app_of, built, fault_of, first_value, found_of, is_simple, is_simple_and_free, matched_of, new_app, one_text, raw_values, rows_of, subcommand_name_of, subcommand_of, subcommand_rows, subcommand_rows_of, takes, with_rule, with_subcommand}
 pub use Rattle.clap.specs.declared.builder.command.Command.{Command}
-pub use Rattle.par2_arguments.specs.Definition.{IsApp, IsArg, rule_for, shape_for}
+pub use Rattle.par2_arguments.specs.Definition.{IsApp, flag_of, meaning, number, number_of, rule_for, shape_of, value_of, values_of}
 unfoldable pub use Rattle.par2_arguments.specs.Definition.{par2_app, start_app}
-pub use Rattle.par2_arguments.specs.Meanings.{flag_of, meaning, number, number_of, value_of, values_of}

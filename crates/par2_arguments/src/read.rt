@@ -1,11 +1,12 @@
 //! The command that words request. `read_words` lets clap match them, and `named` reads the matches of the subcommand.
 //! Contracts see matches as rows (`rows_of`): each is the values of one argument.
-ghost use Rattle.std.specs.Prelude.{◌≡◌, [], IfOk, IfErr, Some, true, codes, map, is_some, string_bytes, unwrap_or};
-ghost use Rattle.clap.specs.Words.{fault_of, found_of, rows_of, kind_of, subcommand_of, takes};
-ghost use Rattle.par2_spec.specs.Views.{command_of};
-ghost use Rattle.par2_arguments.specs.Definition.{par2_app};
-ghost use Rattle.par2_arguments.specs.ReadWords.{IsMeant};
-ghost use Rattle.par2_arguments.specs.Meanings.{requested_by, meaning, number_of, value_of, values_of, flag_of};
+#![tactic(auto, using(crate::proofs::Subcommands::bytes_read))]
+
+ghost use Rattle.std.specs.Prelude.{◌≡◌, ◌⊎◌, IfOk, None, IfErr, Some, true, codes, map, is_some, string_bytes, unwrap_or};
+ghost use Rattle.clap.specs.Words.{kind_of, subcommand_of, takes};
+ghost use Rattle.par2_spec.specs.Prelude.{command_of};
+ghost use Rattle.par2_arguments.specs.declared.read.WordsFault.TheVariants.{Memory};
+ghost use Rattle.par2_arguments.specs.Definition.{AskFor, flag_of, meaning, number_of, par2_app, rows_in, value_of, values_of};
 
 use crate::definition::par2_command;
 use clap::ArgMatches;
@@ -25,8 +26,6 @@ pub enum WordsFault {
 }
 
 impl From<AllocError> for WordsFault {
-    ghost use Rattle.par2_arguments.specs.declared.read.WordsFault.TheVariants.{Memory};
-
     ghost from_gives = { λ _ e. e ≡ Memory };
 
     // For `?` after an allocation.
@@ -37,9 +36,11 @@ impl From<AllocError> for WordsFault {
 
 impl From<WordsFault> for Failure {
     ghost use Rattle.std.specs.Prelude.{◌≡◌};
-    ghost use Rattle.par2_arguments.specs.ReadWords.{unread_as};
+    ghost use Rattle.par2_spec.specs.declared.Failure.TheVariants.{Arguments, Refused};
+    ghost use Rattle.par2_spec.specs.declared.Fault.TheVariants.{Memory};
+    ghost use Rattle.par2_arguments.specs.declared.read.WordsFault.TheVariants as word;
 
-    ghost from_gives = { λ fault failure. failure ≡ unread_as fault };
+    ghost from_gives = { λ e f. (e ≡ word.Arguments → f ≡ Arguments) × (e ≡ word.Memory → f ≡ Refused Memory) };
 
     // The failure that a run prints if its words aren't read.
     fn from(fault: WordsFault) -> Self {
@@ -52,8 +53,7 @@ impl From<WordsFault> for Failure {
 
 // The first name of a command, copied from the matches. clap requires it of each command that has one.
 fn base_of(alloc: Global, matches: &ArgMatches<'_>) -> Result<String>
-    ensures { IfOk result (λ s. string_bytes s
-        ≡ value_of (codes "base") (rows_of (found_of matches.now))) }
+    ensures { IfOk result (λ s. string_bytes s ≡ value_of (codes "base") (rows_in matches.now)) }
 {
     String::from_str(alloc, matches.get_str("base").unwrap_or(""))
 }
@@ -61,7 +61,7 @@ fn base_of(alloc: Global, matches: &ArgMatches<'_>) -> Result<String>
 // The names after the first, copied from the matches in order: the inputs of a create, or further files to search.
 fn files_of(alloc: Global, matches: &ArgMatches<'_>) -> Result<Vec<String>>
     ensures { IfOk result (λ v. map string_bytes v.items
-        ≡ values_of (codes "files") (rows_of (found_of matches.now))) }
+        ≡ values_of (codes "files") (rows_in matches.now)) }
 {
     let buffers = matches.get_strs("files").unwrap_or(&[]);
     let mut files = Vec::new(alloc);
@@ -73,14 +73,14 @@ fn files_of(alloc: Global, matches: &ArgMatches<'_>) -> Result<Vec<String>>
 
 // Whether the flag `id` was given: clap gives it the value `true` then.
 fn has_flag(matches: &ArgMatches<'_>, id: &str) -> bool
-    ensures { result ≡ flag_of id.now (rows_of (found_of matches.now)) }
+    ensures { result ≡ flag_of id.now (rows_in matches.now) }
 {
     matches.get_str(id).is_some_and(|bytes| bytes == "true")
 }
 
 // The slice size of a create, `-sN`, in bytes. clap requires it, so the 0 isn't used.
 fn slice_size_of(matches: &ArgMatches<'_>) -> u64
-    ensures { result ≡ number_of 64 (codes "slice") (rows_of (found_of matches.now)) }
+    ensures { result ≡ number_of 64 (codes "slice") (rows_in matches.now) }
 {
     matches.get_one::<u64>("slice").unwrap_or(0)
 }
@@ -88,15 +88,16 @@ fn slice_size_of(matches: &ArgMatches<'_>) -> u64
 // The number of the option `id` of a create: the count of recovery slices, `-cN`, or the first exponent, `-fN`, which
 // is 0 if it isn't given.
 fn count_of(matches: &ArgMatches<'_>, id: &str) -> u32
-    ensures { result ≡ number_of 32 id.now (rows_of (found_of matches.now)) }
+    ensures { result ≡ number_of 32 id.now (rows_in matches.now) }
 {
     matches.get_one::<u32>(id).unwrap_or(0)
 }
 
-// The command of the subcommand with this name and these matches. `IsMeant`: exactly that, or Memory, or Arguments for
-// another name, which clap doesn't accept.
+// The command of the subcommand with this name and these matches. Err if memory runs out or for another name, which
+// clap doesn't accept.
 fn named(alloc: Global, name: &str, matches: &ArgMatches<'_>) -> Result<Command, WordsFault>
-    ensures { IsMeant result (meaning (name.now, rows_of (found_of matches.now))) }
+    ensures ok { IfOk result (λ c. meaning (name.now, rows_in matches.now) ≡ Some (command_of c)) }
+    ensures err { IfErr result (λ e. e ≡ Memory ⊎ meaning (name.now, rows_in matches.now) ≡ None) }
 {
     match name {
         "create" => Ok(Command::Act(Action::Create(CreateArgs {
@@ -127,8 +128,8 @@ fn named(alloc: Global, name: &str, matches: &ArgMatches<'_>) -> Result<Command,
 
 // The fault of words that clap refuses: Memory if clap ran out of memory, otherwise Arguments.
 fn fault_for(error: &clap::Error) -> WordsFault
-    ensures memory { kind_of error.now ≡ ErrorKind.OutOfMemory → result ≡ WordsFault.Memory }
-    ensures arguments { result ≡ WordsFault.Memory → kind_of error.now ≡ ErrorKind.OutOfMemory }
+    ensures memory { kind_of error.now ≡ ErrorKind.OutOfMemory → result ≡ Memory }
+    ensures arguments { result ≡ Memory → kind_of error.now ≡ ErrorKind.OutOfMemory }
 {
     match error.kind() {
         ErrorKind::OutOfMemory => WordsFault::Memory,
@@ -140,20 +141,17 @@ fn fault_for(error: &clap::Error) -> WordsFault
 ///
 /// Every refusal by clap is `Arguments`, `--help` too, except for out of memory.
 pub fn read_words(alloc: Global, words: &[String]) -> Result<Command, WordsFault>
-    ensures command { IfOk result (λ c. requested_by (map string_bytes words.now)
-        ≡ Some (command_of c)) }
-    ensures faultless { IfOk result (λ _. fault_of par2_app (map string_bytes words.now) ≡ []) }
+    ensures command { IfOk result (λ c. AskFor (map string_bytes words.now) (command_of c)) }
     // Words that clap's definition accepts, with a subcommand, are refused only if memory runs out.
     ensures arguments { let buffers = map string_bytes words.now in
         takes par2_app buffers ≡ true → is_some (subcommand_of par2_app buffers) ≡ true
-        → IfErr result (λ e. e ≡ WordsFault.Memory) }
+        → IfErr result (λ e. e ≡ Memory) }
 {
-    let matches = match par2_command(alloc)?.try_get_matches_from(words) {
-        Ok(matches) => matches,
-        Err(error) => return Err(fault_for(&error)),
-    };
-    match matches.subcommand() {
-        Some((name, matches)) => named(alloc, name, matches),
-        None => Err(WordsFault::Arguments),
+    match par2_command(alloc)?.try_get_matches_from(words) {
+        Ok(matches) => match matches.subcommand() {
+            Some((name, matches)) => named(alloc, name, matches),
+            None => Err(WordsFault::Arguments),
+        },
+        Err(error) => Err(fault_for(&error)),
     }
 }

@@ -5,6 +5,5 @@ pub use Rattle.std.proofs.raw_atomic.Walks.{proved}
 pub use Rattle.std.specs.FinMap.{entries}
 pub use Rattle.std.specs.Int.Bits.{bit_and}
 pub use Rattle.par2_disk.specs.Stores.{OnlyReads}
-pub use Rattle.par2_spec.specs.Changes.{FolderState, Write, state_after}
-unfoldable pub use Rattle.par2_spec.specs.Changes.{change_refusal, effect}
-pub use Rattle.par2_spec.specs.Folders.{names}
+pub use Rattle.par2_spec.specs.Prelude.{FolderState, Write, state_after, names}
+unfoldable pub use Rattle.par2_spec.specs.Prelude.{change_refusal, effect}

@@ -1,16 +1,27 @@
--- What the calls of a store do, by its ghost state before and after. What they say of its contents and of its crash
--- states holds if the store is honest.
-use Rattle.std.specs.Prelude.{◌≡◌, ◌⊎◌, ◌+◌, ◌<◌, ◌≤◌, ℕ, List, None, Some, Vec, Result, IfOk, IsErr, IsErrOf, IsFalse, IsTrue, OnErr, OnOk, option_map, Option}
+-- What a power cut may leave. Until written bytes are synced, any prefix of them may be left. Until a change of names is
+-- synced, it may be there or not, independently of others, but never in part. Synced bytes and names stay.
+use Rattle.std.specs.Prelude.{◌≡◌, List, Option, Some, ℕ, ◌⊎◌, ◌+◌, ◌<◌, ◌≤◌, None, Vec, Result, IfOk, IsErr, IsErrOf, IsFalse, IsTrue, OnErr, OnOk, option_map}
 use Rattle.std.specs.FinMap.{get}
-use Rattle.std.specs.declared.alloc.Global.{Global}
-use Rattle.par2_spec.specs.Changes.{Change, is_applicable}
-use Rattle.par2_spec.specs.Folders as folder
-use Rattle.par2_spec.specs.Stores.{Contents, with_change, with_journal}
-use Rattle.par2_disk.specs.Cuts.{IsDurable, NoMore}
-use Rattle.par2_disk.specs.declared.store.ReadFault.{ReadFault}
-use Rattle.par2_disk.specs.declared.store.ReadFault.TheVariants as fault
-use Rattle.par2_disk.specs.declared.store.StoreFault.{StoreFault}
-use Rattle.par2_disk.specs.declared.view.Store.{Ghosts as StoreOf}
+pub use Rattle.std.specs.declared.alloc.Global.{Global}
+use Rattle.par2_spec.specs.Prelude.{Contents, with_change, with_journal, Change, has, is_applicable, names}
+pub use Rattle.par2_disk.specs.declared.store.ReadFault.{ReadFault}
+pub use Rattle.par2_disk.specs.declared.store.ReadFault.TheVariants.{Memory, Store}
+pub use Rattle.par2_disk.specs.declared.store.StoreFault.{StoreFault}
+pub use Rattle.par2_disk.specs.declared.store.Store.{Ghosts as StoreOf}
+
+-- a power cut leaves these contents and no others
+abbrev pub IsDurable : (Contents → Type 0) → Contents → Type 0
+IsDurable crash_states contents = (left : Contents) → crash_states left → left ≡ contents
+
+-- bytes that are synced: a power cut leaves exactly these
+abbrev pub AreKept : (List ℕ → Type 0) → Option (List ℕ) → Type 0
+AreKept crash_states bytes = (left : List ℕ) → crash_states left → bytes ≡ Some left
+
+-- what may be left, be in the way or fail now could do so before
+abbrev pub NoMore : {A : Type 0} → (A → Type 0) → (A → Type 0) → Type 0
+NoMore {A} old new = (x : A) → new x → old x
+
+-- What calls of a store do, by its ghost state before and after: of its contents and crash states if it is honest.
 
 -- a call that only reads: the contents stay, and no writing call is counted
 pub record OnlyReads {S : Type 0} (store : StoreOf S) (old new : S) : Type 0 where
@@ -22,15 +33,15 @@ pub record OnlyReads {S : Type 0} (store : StoreOf S) (old new : S) : Type 0 whe
 -- the names of the files are read; that can always be done
 pub record ReadsNames {S : Type 0} (store : StoreOf S) (old new : S) (result : Result (Vec (List ℕ) Global) ReadFault) : Type 0 where
   pub reads : OnlyReads store old new
-  pub names : store.honest old → IfOk result (λ list. list.items ≡ folder.names (store.contents old).files)
+  pub names : store.honest old → IfOk result (λ list. list.items ≡ names (store.contents old).files)
   pub possible : store.impossible new ≡ store.impossible old
 
 -- the bytes of a file are read. If no file has the name, the call can't be done and fails
 pub record ReadsFile {S : Type 0} (store : StoreOf S) (old new : S) (name : List ℕ) (result : Result (Vec ℕ Global) ReadFault) : Type 0 where
   pub reads : OnlyReads store old new
   pub bytes : store.honest old → IfOk result (λ bytes. get (store.contents old).files name ≡ Some bytes.items)
-  pub absent : store.honest old → get (store.contents old).files name ≡ None → IsErrOf result fault.Store
-  pub possible : store.honest old → IsTrue (folder.has (store.contents old).files name) → store.impossible new ≡ store.impossible old
+  pub absent : store.honest old → get (store.contents old).files name ≡ None → IsErrOf result Store
+  pub possible : store.honest old → IsTrue (has (store.contents old).files name) → store.impossible new ≡ store.impossible old
   pub grows : store.impossible old ≤ store.impossible new
 
 -- the journal is read, if there is one; that can always be done
@@ -42,9 +53,9 @@ pub record ReadsJournal {S : Type 0} (store : StoreOf S) (old new : S) (result :
 -- the number of failures before and after a reading call. Running out of memory isn't a failure of the store
 pub record CountsReadFailures {S T : Type 0} (failures : S → ℕ) (old new : S) (result : Result T ReadFault) : Type 0 where
   pub later : failures old ≤ failures new
-  pub cause : IsErrOf result fault.Store → failures old < failures new
+  pub cause : IsErrOf result Store → failures old < failures new
   pub steady : OnOk result (failures new ≡ failures old)
-  pub memory : IsErrOf result fault.Memory → failures new ≡ failures old
+  pub memory : IsErrOf result Memory → failures new ≡ failures old
 
 -- the number of failures before and after a call that counts each of its failures
 pub record CountsCalls {T E : Type 0} (before after : ℕ) (result : Result T E) : Type 0 where

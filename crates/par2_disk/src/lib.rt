@@ -5,16 +5,9 @@
 #![tactic(auto)]
 
 mod current;
-mod directory;
 mod disk;
-mod entry;
-mod listing;
-mod modes;
-mod reading;
 mod store;
-mod view;
 
-pub use disk::DiskStore;
-pub use reading::read_within;
-pub use store::{FolderStore, ReadFault, StoreFault, read_folder};
-pub use view::{Count, Store};
+pub use current::read_within;
+pub use disk::{DiskStore, FolderStore, read_folder};
+pub use store::{Count, ReadFault, Store, StoreFault};

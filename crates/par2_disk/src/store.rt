@@ -1,11 +1,11 @@
-//! The trait of stores, which keep a flat folder and a journal, and how a store's folder is read into memory.
-ghost use Rattle.std.specs.Prelude.{◌≡◌, IfOk};
-ghost use Rattle.par2_spec.specs.Changes.{Write, Replace, Rename, Remove};
-ghost use Rattle.par2_disk.specs.Stores.{CountsReadFailures, Makes, OnlyReads, PutsJournal, ReadsFile, ReadsJournal, ReadsNames};
+//! Why a call of a store fails, and the ghost state of stores for contracts: traits and definitions cite it, so it stands
+//! apart from them.
 
-use crate::Store;
-use par2_files::{Change, Folder, Name};
-use std::alloc::Global;
+ghost use Rattle.std.specs.Prelude.{◌≡◌, ℕ, ◌+◌};
+ghost use Rattle.std.specs.Borrow.{ftrue};
+ghost use Rattle.par2_spec.specs.Prelude.{Contents};
+
+use std::marker::Model;
 use thiserror::Error;
 
 /// Why a reading call fails.
@@ -23,62 +23,57 @@ pub enum ReadFault {
 #[error("the folder could not be written")]
 pub struct StoreFault;
 
-/// A flat folder of files, and a journal beside it. The contracts about its contents hold if the store is honest: only
-/// runs of this program write it, and reads return what was written. A writing call that fails has done all of its
-/// work or none. After a writing call that returns Ok, a power cut leaves what the call wrote. After one that fails,
-/// or during one, a power cut leaves either the contents before the call or those that the call writes.
-pub trait FolderStore: Store {
-    /// The names of the files, sorted.
-    fn names(&mut self, alloc: Global) -> Result<Vec<Name>, ReadFault>
-        ensures names { ReadsNames Self.Store self.old self.new result }
-        ensures failures { CountsReadFailures Self.failures self.old self.new result };
+/// The ghost state of a store. It costs nothing at run time.
+pub trait Store {
+    /// Whether only runs of this program write it, and reads return what was written.
+    ghost honest: { Self → Type 0 };
 
-    /// The bytes of a file. It fails if no file has the name.
-    fn read(&mut self, alloc: Global, name: &Name) -> Result<Vec<u8>, ReadFault>
-        ensures file { ReadsFile Self.Store self.old self.new name.now result }
-        ensures failures { CountsReadFailures Self.failures self.old self.new result };
+    /// The files and the journal.
+    ghost contents: { Self → Contents };
 
-    /// The journal, if there is one.
-    fn read_journal(&mut self, alloc: Global) -> Result<Option<Vec<u8>>, ReadFault>
-        ensures journal { ReadsJournal Self.Store self.old self.new result }
-        ensures failures { CountsReadFailures Self.failures self.old self.new result };
+    /// The contents that a power cut may leave now.
+    ghost crash_states: { Self → Contents → Type 0 };
 
-    /// Writes a new file. It does nothing and fails if a file has the name.
-    fn write(&mut self, name: &Name, bytes: &[u8]) -> Result<(), StoreFault>
-        ensures made { Makes Self.Store self.old self.new (Write name.now bytes.now) result };
+    /// The number of its failures.
+    ghost failures: { Self → ℕ };
 
-    /// Replaces the bytes of a file. It does nothing and fails if no file has the name.
-    fn replace(&mut self, name: &Name, bytes: &[u8]) -> Result<(), StoreFault>
-        ensures made { Makes Self.Store self.old self.new (Replace name.now bytes.now) result };
+    /// The number of calls that can't be done: to read, replace, remove or rename a name that no file has, or to write
+    /// or rename to a name that is taken.
+    ghost impossible: { Self → ℕ };
 
-    /// Renames a file. It does nothing and fails if no file has the first name, or one has the second.
-    fn rename(&mut self, from: &Name, to: &Name) -> Result<(), StoreFault>
-        ensures made { Makes Self.Store self.old self.new (Rename from.now to.now) result };
-
-    /// Removes a file. It does nothing and fails if no file has the name.
-    fn remove(&mut self, name: &Name) -> Result<(), StoreFault>
-        ensures made { Makes Self.Store self.old self.new (Remove name.now) result };
-
-    /// Writes the whole journal, over an existing one.
-    fn put_journal(&mut self, bytes: &[u8]) -> Result<(), StoreFault>
-        ensures put { PutsJournal Self.Store self.old self.new bytes.now result };
+    /// The number of writing calls, including those that failed.
+    ghost writing_calls: { Self → ℕ };
 }
 
-/// Reads the folder of a store into memory, as the first step of opening it: the names, and then each file in their
-/// order. If a store that isn't honest lists a name twice, the bytes that were read first count.
-pub fn read_folder<S: FolderStore>(alloc: Global, store: &mut S) -> Result<Folder, ReadFault>
-    ensures files { S.honest store.old → IfOk result (λ f. f.files ≡ (S.contents store.old).files) }
-    ensures reads { OnlyReads S.Store store.old store.new }
-    ensures failures { CountsReadFailures S.failures store.old store.new result }
-    ensures possible { S.honest store.old → S.impossible store.new ≡ S.impossible store.old }
-{
-    let names = store.names(alloc)?;
-    let mut folder = Folder::new(alloc);
-    folder.reserve(names.len())?;
-    for name in &names {
-        let bytes = store.read(alloc, name)?;
-        let mut change = Change::Write(name.copied(), bytes.into());
-        let _taken = folder.apply(&mut change);
+/// A ghost count.
+#[derive(Drop)]
+pub struct Count {
+    pub ghost count: { ℕ },
+}
+
+impl Model for Count {
+    ghost also_owns = { λ _. ftrue };
+}
+
+impl Count {
+    /// The count before any call: zero. It exists for contracts only, and takes no memory.
+    pub fn new() -> Count
+        ensures { result.count ≡ 0 }
+    {
+        Count {}
     }
-    Ok(folder)
+
+    // The count after one more, for `rise`. For the prover: a new ghost value, which no code computes.
+    fn next(&self) -> Count
+        ensures { result.count ≡ self.now.count + 1 }
+    {
+        Count {}
+    }
+
+    /// Counts one more.
+    pub fn rise(&mut self)
+        ensures { self.new.count ≡ self.old.count + 1 }
+    {
+        *self = self.next();
+    }
 }

@@ -1,10 +1,10 @@
 -- States of groups of equal folders, from one split to the next along changes.
-use Rattle.par2_files.proofs.Common.{◌≡◌, ℕ, suc, ◌+◌, ◌<◌, ◌≤◌, Bool, cond, IsTrue, List, [], ◌∷◌, ◌++◌, Bor, length, map, take, drop, get_or, refl, sym, ap, subst, ◌∙◌, append_assoc, append-nil, add-one, drop-cons, arith, drop_all, map-append, take_more, and_parts, md5, HasAbsorbed, buffers_of, Midstate, Folder, fingerprint, effect, is_applicable, are_applicable, folders_after, AreFolderFiles, change_of, new_group, group_buffers, bytes_before, touches, later_buffers, AreBehind, AreTo, HaveAbsorbed, files_in, folder_in, Split, Beginning, End, common_steps}
+use Rattle.par2_files.proofs.Common.{◌≡◌, ℕ, suc, ◌+◌, ◌<◌, ◌≤◌, Bool, cond, IsTrue, List, [], ◌∷◌, ◌++◌, Bor, length, map, take, drop, get_or, refl, sym, ap, subst, ◌∙◌, append_assoc, append-nil, add-one, drop-cons, arith, drop_all, map-append, take_more, and_parts, md5, HasAbsorbed, buffers_of, Midstate, Folder, fingerprint, effect, is_applicable, are_applicable, folders_after, AreFolderFiles, change_of, group_buffers, bytes_before, touches, later_buffers, AreTo, HaveAbsorbed, files_in, folder_in, Split, Beginning, End, common_steps, ◌⊎◌, false, ◌-◌, false≢true, message_of, AbsorbsTo, Pending, ReachEach, bytes_where, is_below, comes_before, AreCheckpointsOf}
 use Rattle.par2_files.specs.declared.change.Change.{Change}
-use Rattle.par2_spec.specs.Changes as defined
-use Rattle.par2_files.specs.declared.walk.Absorbing.{Absorbing}
+use Rattle.par2_files.specs.declared.snapshot.Absorbing.{Absorbing}
 use Rattle.par2_files.specs.declared.snapshot.Snapshot.{Snapshot}
-use Rattle.par2_files.proofs.Splits.{no_bytes, bytes_on, whole_bytes}
+use Rattle.par2_files.proofs.SortedFiles.{no_bytes, bytes_on, whole_bytes, taken_on}
+use Rattle.par2_spec.specs.Changes as defined
 
 -- ---- states and messages one by one
 
@@ -41,35 +41,17 @@ digested_more digests new digest buffers i lt pushed so_far is = grind (arith, c
 
 -- ---- a change
 
-first_applicable : (folder : Folder) (change : defined.Change) (rest : List defined.Change) → IsTrue (are_applicable folder (change ∷ rest)) → IsTrue (is_applicable folder change)
-unfolding are_applicable
-first_applicable folder change rest h = (and_parts _ _ h).0
-
-rest_applicable : (folder : Folder) (change : defined.Change) (rest : List defined.Change) → IsTrue (are_applicable folder (change ∷ rest)) → IsTrue (are_applicable (effect folder change) rest)
-unfolding are_applicable
-rest_applicable folder change rest h = (and_parts _ _ h).1
-
-later_first : (split : Split) (folder : Folder) (change : defined.Change) (rest : List defined.Change)
-    → later_buffers split folder (change ∷ rest) ≡ new_group split (effect folder change) change ++ later_buffers split (effect folder change) rest
-unfolding later_buffers
-later_first split folder change rest = refl
-
-later_none : (split : Split) (folder : Folder) → later_buffers split folder [] ≡ []
-unfolding later_buffers
-later_none split folder = refl
-
 -- the states that are left after a change
 next_parents : (from : Split) (folder : Folder) (change : defined.Change) (rest : List defined.Change) (states : List Midstate) (place : ℕ)
     → HaveAbsorbed (drop place states) (group_buffers from folder (change ∷ rest))
     → HaveAbsorbed (drop (cond (touches from change) (place + 1) place) states) (group_buffers from (effect folder change) rest)
-next_parents from folder change rest states place held = grind (arith, later_first, rest, effect, later_buffers, add-one, absorbed_behind, bytes_on)
+unfolding later_buffers
+next_parents from folder change rest states place held = grind (arith, add-one, absorbed_behind, bytes_on)
 
 -- ---- a walk from one split to another
 
 -- the progress of the walk, with these changes still to come
 pub record IsWithin (from to : Split) (states : List Midstate) (folder : Folder) (changes : List Change) (snapshot : Snapshot) (absorbing : Absorbing) (place : ℕ) (rest : List Change) : Type 0 where
-  pub kept : AreFolderFiles (files_in snapshot)
-  pub few : length absorbing.pendings.items ≤ 16
   pub applicable : IsTrue (are_applicable (folder_in snapshot) (map change_of rest))
   pub parents : HaveAbsorbed (drop place states) (group_buffers from (folder_in snapshot) (map change_of rest))
   pub done : List (List ℕ)
@@ -85,31 +67,36 @@ module _ {from to : Split} {states : List Midstate} {folder : Folder} {changes :
     rest = map change_of (drop (suc i) changes)
 
     pub next_applicable : IsTrue (is_applicable (folder_in snapshot) (change_of change))
-    next_applicable = first_applicable _ _ _ (subst (λ l. IsTrue (are_applicable (folder_in snapshot) (map change_of l))) split within.applicable)
+    unfolding are_applicable
+    next_applicable = (and_parts _ _ (subst (λ l. IsTrue (are_applicable (folder_in snapshot) (map change_of l))) split within.applicable)).0
 
     module _ {there : ℕ} (place_is : there ≡ cond (touches from (change_of change)) (place + 1) place) where
       pub parents_then : HaveAbsorbed (drop there states) (group_buffers from (effect (folder_in snapshot) (change_of change)) (map change_of (drop (suc i) changes)))
       parents_then = grind (arith, effect, next_parents, split)
 
-      pub goes_on : (next : Snapshot) → folder_in next ≡ effect (folder_in snapshot) (change_of change) → AreFolderFiles (files_in next) → (more : Absorbing) → length more.pendings.items ≤ 16
+      pub goes_on : (next : Snapshot) → folder_in next ≡ effect (folder_in snapshot) (change_of change) → (more : Absorbing)
           → (begins : Bool) → touches to (change_of change) ≡ begins → AreTo more (within.done ++ cond begins (bytes_before to (folder_in next) ∷ []) [])
           → IsWithin from to states folder changes next more there (drop (i + 1) changes)
-      goes_on next after kept more few begins is_begun reached = grind (arith, common_steps, rest, add-one, are_applicable, rest_applicable, split, parents_then, append_assoc, later_buffers, later_first)
+      unfolding are_applicable later_buffers
+      goes_on next after more begins is_begun reached = grind (arith, common_steps, rest, add-one, split, parents_then, append_assoc)
 
   -- at the end
   pub arrived : {snapshot : Snapshot} {absorbing : Absorbing} {place i : ℕ} → IsWithin from to states folder changes snapshot absorbing place (drop i changes) → length changes ≤ i
       → AreTo absorbing (group_buffers to folder (map change_of changes))
-  arrived {snapshot = snapshot} {absorbing = absorbing} {i = i} within over = grind (arith, later_buffers, drop_all, later_none, append-nil)
+  unfolding later_buffers
+  arrived {snapshot = snapshot} {absorbing = absorbing} {i = i} within over = grind (arith, drop_all, append-nil)
 
 -- ---- the start of a walk
 
+-- no change touches a name before the split
+abbrev AreBehind : Split → List Change → Type 0
+AreBehind split changes = (i : ℕ) (none : Change) → i < length changes → touches split (change_of (get_or changes i none)) ≡ false
+
 none_later : (split : Split) (folder : Folder) (changes : List Change) → AreBehind split changes → later_buffers split folder (map change_of changes) ≡ []
-none_later split folder [] behind = later_none split folder
+unfolding later_buffers
+none_later split folder [] behind = refl
 none_later split folder (change ∷ changes) behind =
-    let next : Folder = effect folder (change_of change) in
-    later_first split folder (change_of change) (map change_of changes)
-    ∙ ap (λ t. cond t (bytes_before split next ∷ []) [] ++ later_buffers split next (map change_of changes)) (behind 0 change (omega arith))
-    ∙ none_later split next changes (λ i none lt. behind (suc i) none (omega (arith, lt)))
+    grind (arith, behind 0 change, none_later split (effect folder (change_of change)) changes (λ i none lt. behind (suc i) none (omega (arith, lt))))
 
 -- one state, at a split with no changed name before it
 pub sets_out : (split : Split) (folder : Folder) (changes : List Change) (state : Midstate) → AreBehind split changes → HasAbsorbed state (bytes_before split folder)
@@ -133,3 +120,42 @@ later_fingerprints folder (change ∷ changes) = λ k. fingerprint_is (effect fo
 
 pub all_fingerprints : (folder : Folder) (changes : List defined.Change) → map md5 (group_buffers End folder changes) ≡ map fingerprint (folder ∷ folders_after folder changes)
 all_fingerprints folder changes = λ k. fingerprint_is folder k ∷ later_fingerprints folder changes k
+
+-- Steps of `fingerprint_with_checkpoints`.
+
+-- once a pending state has absorbed its parts, it has absorbed the message that it was to absorb
+pub behind : (pending : Pending) (bytes : List ℕ) (state : Midstate) → AbsorbsTo pending bytes
+    → ((m : List ℕ) → HasAbsorbed pending.state m → HasAbsorbed state (m ++ message_of pending.parts.items)) → HasAbsorbed state bytes
+behind pending bytes state reached held = subst (HasAbsorbed state) reached.1.1 (held reached.0 reached.1.0)
+
+-- the next bytes that are absorbed
+pub moved : (content : List ℕ) (from to : ℕ) (bytes : List ℕ) (state : Midstate) → from ≤ to → bytes ≡ take (to - from) (drop from content)
+    → HasAbsorbed state (take from content ++ bytes) → HasAbsorbed state (take to content)
+moved content from to bytes state le is held = subst (HasAbsorbed state) (ap (λ b. take from content ++ b) is ∙ taken_on content from to le) held
+
+-- ---- states side by side and the messages that they absorb
+
+-- one more
+pub one_more : (states : List Midstate) (pendings : List Pending) (buffers : List (List ℕ)) (pending : Pending) (bytes : List ℕ) → ReachEach states pendings buffers → AbsorbsTo pending bytes
+    → ReachEach states (pendings ++ pending ∷ []) (buffers ++ bytes ∷ [])
+one_more (s ∷ states) pendings (t ∷ buffers) pending bytes held reached = (held.0, one_more states pendings buffers pending bytes held.1 reached)
+one_more [] (p ∷ pendings) (t ∷ buffers) pending bytes held reached = (held.0, one_more [] pendings buffers pending bytes held.1 reached)
+one_more states pendings buffers pending bytes held reached = grind (arith)
+
+-- the states once all have absorbed their parts
+abbrev pub HaveAbsorbedMore : List Pending → List Midstate → Type 0
+HaveAbsorbedMore pendings new = (k : ℕ) (m : List ℕ) (none : Pending) (no_state : Midstate) → k < length pendings → HasAbsorbed (get_or pendings k none).state m
+    → HasAbsorbed (get_or new k no_state) (m ++ message_of (get_or pendings k none).parts.items)
+
+behind_all : (pendings : List Pending) (new : List Midstate) (buffers : List (List ℕ)) → length pendings ≤ length new → HaveAbsorbedMore pendings new → ReachEach [] pendings buffers
+    → ReachEach (take (length pendings) new) [] buffers
+behind_all (p ∷ pendings) (s ∷ new) (t ∷ buffers) enough behind held = (
+  subst (HasAbsorbed s) held.0.1.1 (behind 0 held.0.0 p s (omega arith) held.0.1.0),
+  behind_all pendings new buffers (omega (arith, enough)) (λ k m none no_state lt absorbed. behind (suc k) m none no_state (omega (arith, lt)) absorbed) held.1,
+)
+behind_all pendings new buffers enough behind held = grind (arith)
+
+pub settled : (states : List Midstate) (pendings : List Pending) (new : List Midstate) (buffers : List (List ℕ)) → length pendings ≤ length new → HaveAbsorbedMore pendings new
+    → ReachEach states pendings buffers → ReachEach (states ++ take (length pendings) new) [] buffers
+settled (s ∷ states) pendings new (t ∷ buffers) enough behind held = (held.0, settled states pendings new buffers enough behind held.1)
+settled states pendings new buffers enough behind held = grind (arith, behind_all)

@@ -1,8 +1,8 @@
 -- What a list of changes becomes once a mutable borrow of its changes ends.
 use Rattle.std.specs.Prelude.{List, ◌++◌, length, map, take, drop}
-use Rattle.std.specs.Borrow.{Lends, MutBor, Fml, Array}
+use Rattle.par2_spec.specs.Prelude.{Lends, MutBor, Fml, Array}
 use Rattle.par2_spec.specs.Changes as defined
-use Rattle.par2_files.specs.ChangeViews.{change_of}
+use Rattle.par2_files.specs.Folders.{change_of}
 use Rattle.par2_files.specs.declared.change.Change.{Change}
 use Rattle.par2_files.specs.contracts.change.Change.{the_row as the_change}
 use Rattle.par2_files.specs.contracts.change.Changes.{the_row}

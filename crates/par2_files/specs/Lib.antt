@@ -1,5 +1,3 @@
-pub mod Sorting
-pub mod ChangeViews
+pub mod Folders
 pub mod Lending
-pub mod Splits
 pub mod Checkpoints

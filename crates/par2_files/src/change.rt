@@ -1,7 +1,7 @@
 //! A file's bytes, a change of a folder, and a list of changes. A plan builds a list with `Changes::push`.
 //! `Changes::apply_and_invert` applies it to a folder, and the list becomes the way back.
 ghost use Rattle.std.specs.Prelude.{◌≡◌, map, IfOk};
-ghost use Rattle.par2_files.specs.ChangeViews.{change_of};
+ghost use Rattle.par2_files.specs.Folders.{change_of};
 
 use crate::{Folder, Name};
 use par2_spec::Result;
@@ -48,9 +48,7 @@ impl Bytes {
     pub fn copy_of(alloc: Global, items: &[u8]) -> Result<Self>
         ensures { IfOk result (λ bytes. bytes ≡ items.now) }
     {
-        Ok(Bytes {
-            items: items.to_vec(alloc)?,
-        })
+        Ok(items.to_vec(alloc)?.into())
     }
 }
 
@@ -69,25 +67,20 @@ pub enum Change {
 
 impl Change {
     ghost use Rattle.std.specs.Prelude.{◌≡◌, IfOk};
-    ghost use Rattle.par2_files.specs.ChangeViews.{change_of};
-    ghost use Rattle.par2_files.specs.Splits.{first_name};
+    ghost use Rattle.par2_files.specs.Folders.{change_of};
+    ghost use Rattle.par2_files.specs.Checkpoints.{first_name};
 
     // A copy of the change and of the bytes that it owns.
-    pub(crate) fn copy_of(alloc: Global, change: &Change) -> Result<Change>
-        ensures { IfOk result (λ copy. change_of copy ≡ change_of change.now) }
+    fn copied(&self, alloc: Global) -> Result<Change>
+        ensures { IfOk result (λ copy. change_of copy ≡ change_of self.now) }
     {
-        match change {
-            Change::Write(name, bytes) => {
-                let bytes = Bytes::copy_of(alloc, bytes.as_slice())?;
-                Ok(Change::Write(name.copied(), bytes))
-            }
-            Change::Replace(name, bytes) => {
-                let bytes = Bytes::copy_of(alloc, bytes.as_slice())?;
-                Ok(Change::Replace(name.copied(), bytes))
-            }
-            Change::Rename(from, to) => Ok(Change::Rename(from.copied(), to.copied())),
-            Change::Remove(name) => Ok(Change::Remove(name.copied())),
-        }
+        let copy = |bytes: &Bytes| Bytes::copy_of(alloc, bytes.as_slice());
+        Ok(match self {
+            Change::Write(name, bytes) => Change::Write(name.copied(), copy(bytes)?),
+            Change::Replace(name, bytes) => Change::Replace(name.copied(), copy(bytes)?),
+            Change::Rename(from, to) => Change::Rename(from.copied(), to.copied()),
+            Change::Remove(name) => Change::Remove(name.copied()),
+        })
     }
 
     // The least of the names that the change touches. Files with lesser names are equal before and after it, so a
@@ -96,10 +89,8 @@ impl Change {
         ensures { result ≡ first_name (change_of self.now) }
     {
         match self {
-            Change::Rename(from, to) => min(from.copied(), to.copied()),
-            Change::Write(name, _) | Change::Replace(name, _) | Change::Remove(name) => {
-                name.copied()
-            }
+            Self::Rename(from, to) => min(from.copied(), to.copied()),
+            Self::Write(name, _) | Self::Replace(name, _) | Self::Remove(name) => name.copied(),
         }
     }
 }
@@ -115,7 +106,7 @@ impl Model for Changes {
     ghost use Rattle.std.specs.Coded.{coded_list};
     ghost use Rattle.par2_spec.specs.Changes as defined;
     ghost use Rattle.par2_spec.specs.Codes.{change_code};
-    ghost use Rattle.par2_files.specs.ChangeViews.{change_of};
+    ghost use Rattle.par2_files.specs.Folders.{change_of};
 
     ghost Value = { List defined.Change };
 
@@ -128,7 +119,7 @@ impl Changes {
     ghost use Rattle.std.specs.Prelude.{◌≡◌, ◌↔◌, ◌++◌, ◌∷◌, [], length, map, IsTrue, OnOk, OnErr};
     ghost use Rattle.std.specs.Borrow.{sem};
     ghost use Rattle.par2_spec.specs.Changes.{takes_all, state_after_all, way_back};
-    ghost use Rattle.par2_files.specs.ChangeViews.{change_of};
+    ghost use Rattle.par2_files.specs.Folders.{change_of};
     ghost use Rattle.par2_files.specs.Lending.{LendsChanges};
 
     /// The empty list.
@@ -196,7 +187,7 @@ pub fn copies_of(alloc: Global, changes: &[Change]) -> Result<Vec<Change>>
 {
     let mut copies = Vec::new(alloc);
     for change in changes {
-        copies.push(Change::copy_of(alloc, change)?)?;
+        copies.push(change.copied(alloc)?)?;
     }
     Ok(copies)
 }

@@ -2,11 +2,10 @@
 //! `search` and edits the vector there by `insert_at`, `remove_at` or `exchange_at`.
 ghost use Rattle.std.specs.FinMap.{get, insert, remove};
 ghost use Rattle.std.specs.Prelude.{◌≡◌, ℕ, ◌+◌, ◌<◌, List, Some, None, vec_len, vec_capacity};
-ghost use Rattle.par2_files.specs.Sorting.{AreFilesOf, AreFolderFiles, IsFileAt, IsGapFor, IsSearched, folder_of};
+ghost use Rattle.par2_files.specs.Folders.{AreFilesOf, AreFolderFiles, IsFileAt, IsGapFor, IsSearched, folder_of};
 
-use crate::checkpoints::Checkpoints;
-use crate::snapshot::{Snapshot, borrowed};
-use crate::walk::fingerprints;
+use crate::snapshot::Snapshot;
+use crate::walk::{Checkpoints, fingerprints};
 use crate::{Bytes, Change, Name};
 use par2_spec::{ChangeFault, Result};
 use std::alloc::Global;
@@ -23,7 +22,7 @@ impl Model for Folder {
     ghost use Rattle.std.specs.Prelude.{◌-◌, vec_len, vec_capacity};
     ghost use Rattle.par2_spec.specs.Changes.{FolderState};
     ghost use Rattle.par2_spec.specs.Codes.{folder_state_code};
-    ghost use Rattle.par2_files.specs.Sorting.{AreFolderFiles, folder_of};
+    ghost use Rattle.par2_files.specs.Folders.{AreFolderFiles, folder_of};
 
     ghost Value = { FolderState };
 
@@ -38,17 +37,17 @@ impl Model for Folder {
     ghost invariant = { λ a. AreFolderFiles a.files.items };
 }
 
+#[tactic(auto, using(crate::proofs::SortedFiles::folder_laws), unfolding(par2_spec::specs::Changes::change_refusal, par2_spec::specs::Changes::effect, par2_spec::specs::Changes::inverse))]
 impl Folder {
     ghost use Rattle.std.specs.Prelude.{◌≡◌, ◌<◌, ◌^◌, Some, None, length, max, map, is_some, option_copied, IsTrue, IfOk, IfErr, OnOk, OnErr, IfSome};
     ghost use Rattle.std.specs.FinMap.{empty, get};
-    ghost use Rattle.par2_md5_lanes.specs.Buffers.{buffers_of};
+    ghost use Rattle.par2_md5_lanes.specs.Messages.{buffers_of};
     ghost use Rattle.par2_spec.specs.Folders.{bytes_of, has, names, fingerprint, IsFolder};
     ghost use Rattle.par2_spec.specs.Changes.{Rename, change_refusal, state_after, inverse, takes_all, state_after_all, way_back};
-    ghost use Rattle.par2_files.specs.ChangeViews.{change_of};
-    ghost use Rattle.par2_files.specs.Sorting.{AreFilesOf, files_in};
+    ghost use Rattle.par2_files.specs.Folders.{change_of};
+    ghost use Rattle.par2_files.specs.Checkpoints.{folder_in};
 
     /// The empty folder. It has no vacant places.
-    #[tactic(auto, using(crate::proofs::SortedFiles::no_files))]
     pub fn new(alloc: Global) -> Self
         ensures files { result.files ≡ empty }
         ensures vacant { result.vacant ≡ 0 }
@@ -59,7 +58,6 @@ impl Folder {
     }
 
     /// The number of files.
-    #[tactic(auto, using(crate::proofs::SortedFiles::count_of))]
     pub fn len(&self) -> usize
         ensures count { result ≡ length (names self.now.files) }
         ensures fits { result < 2 ^ 63 }
@@ -105,8 +103,7 @@ impl Folder {
 
     /// The bytes of each named file, in the order of the names. An absent file has no bytes.
     pub fn bytes_of_each(&self, names: &[Name]) -> Result<Vec<&[u8]>>
-        ensures { IfOk result
-            (λ all. buffers_of all.items ≡ map (bytes_of self.now.files) names.now) }
+        ensures { IfOk result (λ l. buffers_of l.items ≡ map (bytes_of self.now.files) names.now) }
     {
         let all = names.iter().map(|name| self.bytes_of(name));
         all.collect(*self.files.allocator())
@@ -131,15 +128,14 @@ impl Folder {
 
     // Borrows all files, so that the folders after planned changes can be fingerprinted without changing this one.
     pub(crate) fn snapshot(&self) -> Result<Snapshot<'_>>
-        ensures { IfOk result (λ snapshot. AreFilesOf (files_in snapshot) self.now.files) }
+        ensures { IfOk result (λ snapshot. folder_in snapshot ≡ self.now.files) }
     {
-        let files = self.files.iter().map(borrowed);
+        let files = self.files.iter().map(|file| (&file.0, &file.1));
         let files = files.collect(*self.files.allocator())?;
         Ok(Snapshot { files })
     }
 
     /// Applies the change and replaces it by its inverse, without allocating. After an error both are as before.
-    #[tactic(auto, unfolding(par2_spec::specs::Changes::change_refusal, par2_spec::specs::Changes::effect, par2_spec::specs::Changes::inverse))]
     pub fn apply(&mut self, change: &mut Change) -> Result<(), ChangeFault>
         ensures refused { IfErr result (λ fault. change_refusal self.old (change_of change.old)
             ≡ Some fault) }
@@ -165,17 +161,13 @@ impl Folder {
                 Ok(())
             }
             Change::Replace(name, bytes) => {
-                let Ok(at) = search(&self.files, name) else {
-                    return Err(ChangeFault::NoSuchName);
-                };
+                let at = search(&self.files, name).or(Err(ChangeFault::NoSuchName))?;
                 exchange_at(&mut self.files, at, name, bytes);
                 Ok(())
             }
             Change::Rename(from, to) => self.rename(from, to),
             Change::Remove(name) => {
-                let Ok(at) = search(&self.files, name) else {
-                    return Err(ChangeFault::NoSuchName);
-                };
+                let at = search(&self.files, name).or(Err(ChangeFault::NoSuchName))?;
                 let bytes = remove_at(&mut self.files, at, name);
                 *change = Change::Write(name.copied(), bytes);
                 Ok(())
@@ -184,7 +176,6 @@ impl Folder {
     }
 
     // Renames the file and swaps the two names, which makes the inverse rename.
-    #[tactic(auto, unfolding(par2_spec::specs::Changes::change_refusal, par2_spec::specs::Changes::effect))]
     fn rename(&mut self, from: &mut Name, to: &mut Name) -> Result<(), ChangeFault>
         ensures refused { IfErr result (λ fault. change_refusal self.old (Rename from.old to.old)
             ≡ Some fault) }
@@ -194,9 +185,7 @@ impl Folder {
         ensures folder { OnOk result (self.new ≡ state_after self.old (Rename from.old to.old)) }
         ensures exchanged { OnOk result ((from.new ≡ to.old) × (to.new ≡ from.old)) }
     {
-        let Ok(at) = search(&self.files, from) else {
-            return Err(ChangeFault::NoSuchName);
-        };
+        let at = search(&self.files, from).or(Err(ChangeFault::NoSuchName))?;
         let Err(_) = search(&self.files, to) else {
             return Err(ChangeFault::NameTaken);
         };
@@ -218,10 +207,9 @@ impl Folder {
             ≡ way_back self.old.files (map change_of changes.old) }
     {
         for change in changes.iter_mut() {
-            match self.apply(change) {
-                Ok(()) => {}
-                Err(_) => unreachable!(),
-            }
+            let Ok(()) = self.apply(change) else {
+                unreachable!()
+            };
         }
         changes.reverse();
     }
@@ -260,10 +248,8 @@ fn remove_at(files: &mut Vec<(Name, Bytes)>, at: usize, name: &Name) -> Bytes
     requires kept { AreFolderFiles files.old.items }
     requires here { IsFileAt files.old.items name.now at }
     ensures bytes { get (folder_of files.old.items) name.now ≡ Some result }
-    // The folder is without this file; a name that was absent stays absent.
+    // The folder is without this file.
     ensures files { AreFilesOf files.new.items (remove (folder_of files.old.items) name.now) }
-    ensures absent { (q : List ℕ) → get (folder_of files.old.items) q ≡ None
-        → get (folder_of files.new.items) q ≡ None }
     // Its place becomes vacant.
     ensures len { vec_len files.new + 1 ≡ vec_len files.old }
     ensures capacity { vec_capacity files.new ≡ vec_capacity files.old }

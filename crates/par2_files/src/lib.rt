@@ -6,17 +6,16 @@
 #![tactic(auto)]
 
 mod change;
-mod checkpoints;
 mod folder;
 mod name;
 mod snapshot;
 mod walk;
 
 pub use change::{Bytes, Change, Changes, copies_of};
-pub use checkpoints::{
-    Checkpointed, Checkpoints, FolderFingerprint, checkpoint_at, fingerprint_with_checkpoints,
-};
 pub use folder::Folder;
 pub use name::{BadName, Name, is_reserved};
 pub use par2_spec::ChangeFault;
-pub use walk::{Digests, fingerprints};
+pub use walk::{
+    Checkpointed, Checkpoints, Digests, FolderFingerprint, checkpoint_at,
+    fingerprint_with_checkpoints, fingerprints,
+};

@@ -4,7 +4,7 @@ ghost use Rattle.std.specs.Ordering.{nat_cmp};
 ghost use Rattle.std.specs.Cmp.{on_equiv, on_total, on_po, on_per, partial_equiv_from_equiv};
 ghost use Rattle.std.specs.Cmp.Lexicographic.{pointwise, slice_cmp, nat_list_eq_equiv, nat_list_cmp_total, texts_po, texts_ties};
 ghost use Rattle.std.specs.List.{starts_with};
-ghost use Rattle.par2_spec.specs.Names.{is_name, is_par_name};
+ghost use Rattle.par2_spec.specs.Prelude.{is_name, is_par_name};
 
 use arrayvec::ArrayString;
 use std::cmp::Ordering;
@@ -49,7 +49,7 @@ pub fn is_reserved(bytes: &[u8]) -> bool
 }
 
 // Whether the string is a name.
-#[tactic(auto, using(crate::proofs::Output::name_parts))]
+#[tactic(auto, using(crate::proofs::Lists::name_parts))]
 fn is_name(string: &str) -> bool
     ensures name { result ≡ is_name string.now }
     ensures fits { IsTrue result → length string.now ≤ 255 }
@@ -70,13 +70,12 @@ impl Name {
         ensures variant { IsOk result ↔ IsTrue (is_name string.now) }
         ensures ok { IfOk result (λ name. name ≡ string.now) }
     {
-        if !is_name(string) {
-            return Err(BadName);
+        if is_name(string)
+            && let Ok(string) = ArrayString::from(string)
+        {
+            return Ok(Name { string });
         }
-        match ArrayString::from(string) {
-            Ok(string) => Ok(Name { string }),
-            Err(_) => Err(BadName),
-        }
+        Err(BadName)
     }
 
     /// The bytes as a name, if they are one: for the names in packets and in a journal, which needn't be UTF-8.

@@ -4,97 +4,32 @@
 //! folders fall into groups of neighbors that are equal there, and one MD5 state that has absorbed the files before the
 //! split serves a whole group. `fingerprints` goes from split to split by `absorbing_before`, and takes the digests of
 //! all states at the end.
-ghost use Rattle.std.specs.Prelude.{◌≡◌, ◌≤◌, ◌++◌, ◌∷◌, [], ℕ, List, length, IfOk, OnOk, map, IsTrue};
-ghost use Rattle.par2_files.specs.Splits.{AbsorbsTo, AreTo, HaveAbsorbed, IsFurther, buffers_by, bytes_before};
-ghost use Rattle.md5.specs.Md5.{md5};
-ghost use Rattle.par2_md5_lanes.specs.Messages.{HasAbsorbed};
-ghost use Rattle.par2_md5_lanes.specs.Buffers.{buffers_of};
-ghost use Rattle.par2_spec.specs.Changes.{are_applicable, folders_after, takes_all};
-ghost use Rattle.par2_spec.specs.Folders.{fingerprint};
-ghost use Rattle.par2_files.specs.ChangeViews.{change_of};
-ghost use Rattle.par2_files.specs.Sorting.{AreFolderFiles, files_in, folder_in};
-ghost use Rattle.par2_files.specs.Checkpoints.{AreCheckpointsOf};
-ghost use Rattle.par2_files.specs.declared.snapshot.Split.TheVariants.{End};
+//!
+//! Checkpoints: MD5 states within a folder's fingerprint, from which later fingerprints start.
+//! `fingerprint_with_checkpoints` records them when a folder is opened, `checkpoint_at` when a create is planned, and
+//! `fingerprints` starts from them.
 
-use crate::checkpoints::Checkpoints;
-use crate::snapshot::{Snapshot, Split, is_further, pending_between, touches};
+ghost use Rattle.std.specs.Prelude.{false, ◌≡◌, ◌≤◌, ◌++◌, ◌∷◌, [], ℕ, List, length, IfOk, OnOk, map, IsTrue, ◌<◌};
+ghost use Rattle.par2_files.specs.Checkpoints.{AbsorbsTo, AreCheckpointsOf, AreTo, HasCheckpoint, HaveAbsorbed, IsAt, IsFurther, bytes_before, files_in, folder_in, group_buffers, touches};
+ghost use Rattle.std.specs.List.{All};
+ghost use Rattle.md5.specs.Md5.{md5};
+ghost use Rattle.par2_md5_lanes.specs.Messages.{HasAbsorbed, buffers_of};
+ghost use Rattle.par2_spec.specs.Prelude.{are_applicable, folders_after, takes_all, fingerprint};
+ghost use Rattle.par2_files.specs.Folders.{change_of};
+ghost use Rattle.par2_files.specs.declared.snapshot.Split.TheVariants.{At};
+ghost use Rattle.par2_spec.specs.Folders as defined;
+
+use crate::snapshot::{Absorbing, Snapshot, Split};
 use crate::{Change, Folder, Name};
-use par2_md5_lanes::{LANES, Midstate, Part, Pending, absorb_each};
+use par2_md5_lanes::{Midstate, Part, Pending, absorb_each};
 use par2_spec::Result;
 use std::alloc::Global;
-
-/// MD5 states: those that are finished, and then those that still have parts to absorb, at most sixteen.
-#[derive(Drop)]
-pub struct Absorbing<'a> {
-    states: Vec<Midstate>,
-    pendings: Vec<Pending<'a>>,
-}
-
-impl<'a> Absorbing<'a> {
-    /// No states. `AreTo`: state k, finished ones first, has absorbed message k or will.
-    pub(crate) fn new(alloc: Global) -> Absorbing<'a>
-        ensures few { length result.pendings.items ≤ 16 }
-        ensures buffers { AreTo result [] }
-    {
-        Absorbing {
-            states: Vec::new(alloc),
-            pendings: Vec::new(alloc),
-        }
-    }
-
-    // Absorbs all parts by one `absorb_each` and appends the states to the finished ones.
-    fn absorb_all(&mut self) -> Result<()>
-        requires few { length self.old.pendings.items ≤ 16 }
-        ensures empty { OnOk result (self.new.pendings.items ≡ []) }
-        ensures buffers { (buffers : List (List ℕ))
-            → AreTo self.old buffers → OnOk result (AreTo self.new buffers) }
-    {
-        let states = absorb_each(&self.pendings);
-        self.states
-            .extend_from_slice(&states[..self.pendings.len()])?;
-        self.pendings.clear();
-        Ok(())
-    }
-
-    /// Adds a state with the parts that it still has to absorb. If sixteen are pending, it absorbs them first.
-    pub(crate) fn push(&mut self, pending: Pending<'a>) -> Result<()>
-        requires few { length self.old.pendings.items ≤ 16 }
-        ensures few { OnOk result (length self.new.pendings.items ≤ 16) }
-        ensures buffers { (buffers : List (List ℕ)) (bytes : List ℕ)
-            → AreTo self.old buffers → AbsorbsTo pending.entry bytes
-            → OnOk result (AreTo self.new (buffers ++ bytes ∷ [])) }
-    {
-        if self.pendings.len() == LANES {
-            self.absorb_all()?;
-        }
-        Ok(self.pendings.push(pending)?)
-    }
-
-    /// The states once all parts are absorbed, in the order in which they were added.
-    pub(crate) fn finish(mut self) -> Result<Vec<Midstate>>
-        requires few { length self.pendings.items ≤ 16 }
-        ensures { (buffers : List (List ℕ)) → AreTo self.entry buffers
-            → IfOk result (λ states. HaveAbsorbed states.items buffers) }
-    {
-        self.absorb_all()?;
-        Ok(self.states)
-    }
-}
 
 // The most splits at names: each walks all changes once.
 const MOST_SPLITS: usize = 64;
 
-// The names of the splits: every n-th of the sorted first names that the changes touch, from the least on, with the
-// least n that leaves at most `MOST_SPLITS`.
-fn split_names(alloc: Global, changes: &[Change]) -> Result<Vec<Name>> {
-    let mut names: Vec<Name> = changes.iter().map(Change::first_name).collect(alloc)?;
-    names.sort_unstable();
-    let step = names.len().div_ceil(MOST_SPLITS).max(1);
-    names.into_iter().step_by(step).collect(alloc)
-}
-
 // The states at the split `to`, one for each group of folders that are equal up to it, from those at the earlier split
-// `from`. A change that touches a name before a split begins a group there. `buffers_by` has the message of each group.
+// `from`. A change that touches a name before a split begins a group there. `group_buffers` has the message of each group.
 fn absorbing_before<'a>(
     alloc: Global,
     folder: &'a Folder,
@@ -105,56 +40,30 @@ fn absorbing_before<'a>(
 ) -> Result<Absorbing<'a>>
     requires further { IsFurther from to }
     requires applicable { IsTrue (are_applicable folder.now.files (map change_of changes.now)) }
-    requires absorbed { HaveAbsorbed states.now (buffers_by from folder.now.files changes.now) }
-    ensures few { IfOk result (λ absorbing. length absorbing.pendings.items ≤ 16) }
-    ensures states { IfOk result (λ x. AreTo x (buffers_by to.entry folder.now.files changes.now)) }
+    requires absorbed { let changes = map change_of changes.now in
+        HaveAbsorbed states.now (group_buffers from folder.now.files changes) }
+    ensures { let changes = map change_of changes.now in
+        IfOk result (λ x. AreTo x (group_buffers to.entry folder.now.files changes)) }
 {
     let mut snapshot = folder.snapshot()?;
     let mut absorbing = Absorbing::new(alloc);
-    absorbing.push(pending_between(alloc, states[0], &snapshot, from, to)?)?;
+    absorbing.push(snapshot.pending_between(alloc, states[0], from, to)?)?;
     let mut place = 0;
     for change in changes {
         snapshot.apply(change)?;
-        if touches(from, change) {
+        if from.is_after(change) {
             place += 1;
         }
-        if touches(to, change) {
-            absorbing.push(pending_between(alloc, states[place], &snapshot, from, to)?)?;
+        if to.is_after(change) {
+            absorbing.push(snapshot.pending_between(alloc, states[place], from, to)?)?;
         }
     }
     Ok(absorbing)
 }
 
-// The states at the end, one for the folder and one for the folder after each change, from the last checkpoint that has
-// no changed name before it.
-fn absorbing_along<'a>(
-    alloc: Global,
-    checkpoints: &Checkpoints,
-    folder: &'a Folder,
-    changes: &'a [Change],
-) -> Result<Absorbing<'a>>
-    requires checkpoints { AreCheckpointsOf folder.now.files checkpoints.now }
-    requires applicable { IsTrue (are_applicable folder.now.files (map change_of changes.now)) }
-    ensures few { IfOk result (λ absorbing. length absorbing.pendings.items ≤ 16) }
-    ensures buffers { IfOk result (λ x. AreTo x (buffers_by End folder.now.files changes.now)) }
-{
-    let names = split_names(alloc, changes)?;
-    let (mut split, state) = checkpoints.start(changes);
-    let mut states = vec![in alloc; state]?;
-    for name in &names {
-        if is_further(split, name) {
-            let next = Split::At(name);
-            states = absorbing_before(alloc, folder, changes, &states, split, next)?.finish()?;
-            split = next;
-        }
-    }
-    absorbing_before(alloc, folder, changes, &states, split, Split::End)
-}
-
 /// The state, with these bytes still to absorb: how a buffer is digested beside a fingerprint.
 pub fn pending_of_bytes(alloc: Global, state: Midstate, bytes: &[u8]) -> Result<Pending<'_>>
-    ensures { (m : List ℕ) → HasAbsorbed state m
-        → IfOk result (λ pending. AbsorbsTo pending (m ++ bytes.now)) }
+    ensures { (m : List ℕ) → HasAbsorbed state m → IfOk result (λ p. AbsorbsTo p (m ++ bytes.now)) }
 {
     let parts = vec![in alloc; Part::Bytes(bytes)]?;
     Ok(Pending { state, parts })
@@ -178,7 +87,6 @@ pub fn states_with<'a>(
     mut absorbing: Absorbing<'a>,
     buffers: &[&'a [u8]],
 ) -> Result<Vec<Midstate>>
-    requires { length absorbing.pendings.items ≤ 16 }
     ensures { (before : List (List ℕ)) → AreTo absorbing.entry before
         → IfOk result (λ states. HaveAbsorbed states.items (before ++ buffers_of buffers.now)) }
 {
@@ -199,7 +107,8 @@ pub struct Digests {
 
 /// The fingerprints of a folder before the changes and after each of them, and the MD5 digests of buffers. All are
 /// computed side by side, so that a few buffers take little more time. `from` are the checkpoints to set out from. The
-/// files before the last of them that has no changed name before it are not read.
+/// files before the last of them that has no changed name before it are not read. The splits are at every n-th of the
+/// sorted first names that the changes touch, from the least on, with the least n that leaves at most `MOST_SPLITS`.
 pub fn fingerprints(
     alloc: Global,
     folder: &Folder,
@@ -213,9 +122,215 @@ pub fn fingerprints(
         IfOk result (λ found. found.along.items ≡ map fingerprint (folder.now.files ∷ after)) }
     ensures beside { IfOk result (λ found. found.beside.items ≡ map md5 (buffers_of beside.now)) }
 {
-    let absorbing = absorbing_along(alloc, from, folder, changes)?;
+    let mut names: Vec<Name> = changes.iter().map(Change::first_name).collect(alloc)?;
+    names.sort_unstable();
+    let step = names.len().div_ceil(MOST_SPLITS).max(1);
+    let (mut split, state) = from.start(changes);
+    let mut states = vec![in alloc; state]?;
+    for name in names.iter().step_by(step) {
+        if split.comes_before(name) {
+            let next = Split::At(name);
+            states = absorbing_before(alloc, folder, changes, &states, split, next)?.finish()?;
+            split = next;
+        }
+    }
+    let absorbing = absorbing_before(alloc, folder, changes, &states, split, Split::End)?;
     let states = states_with(alloc, absorbing, beside)?;
     let mut along = digests_of(alloc, &states)?;
     let beside = along.split_off(along.len() - beside.len())?;
     Ok(Digests { along, beside })
+}
+
+/// Checkpoints of one folder's fingerprint, in the order of their names: the state after the files before each name. A
+/// fingerprint along changes starts from the last one that has no changed name before it.
+#[derive(Drop)]
+pub struct Checkpoints {
+    list: Vec<(Name, Midstate)>,
+}
+
+// Whether no change touches a name before the split; one may touch the split's own name. A state at the split then
+// serves the folder after each change.
+fn are_behind(at: Split<'_>, changes: &[Change]) -> bool
+    ensures behind { IsTrue result → All (λ c. touches at.entry (change_of c) ≡ false) changes.now }
+    ensures all { All (λ c. touches at.entry (change_of c) ≡ false) changes.now → IsTrue result }
+{
+    !changes.iter().any(|change| at.is_after(change))
+}
+
+impl Checkpoints {
+    /// No checkpoints, so that fingerprints read all files.
+    pub fn none(alloc: Global) -> Checkpoints
+        ensures { (folder : defined.Folder) → AreCheckpointsOf folder result }
+    {
+        Checkpoints {
+            list: Vec::new(alloc),
+        }
+    }
+
+    /// Adds a checkpoint at a name, after the others. `state` has absorbed the folder's files before the name.
+    pub(crate) fn mark(&mut self, name: &Name, state: Midstate) -> Result<()>
+        ensures checkpoints { (folder : defined.Folder) → AreCheckpointsOf folder self.old
+            → HasAbsorbed state (bytes_before (At name.entry) folder)
+            → OnOk result (AreCheckpointsOf folder self.new) }
+        ensures some { OnOk result (0 < length self.new.list.items) }
+    {
+        Ok(self.list.push((name.copied(), state))?)
+    }
+
+    /// The start of fingerprints along the changes: the last checkpoint with no changed name before it or the
+    /// beginning, and the state there. It serves the folders before and after each change, so `group_buffers` has one
+    /// message.
+    pub(crate) fn start(&self, changes: &[Change]) -> (Split<'_>, Midstate)
+        ensures behind { All (λ c. touches result.0 (change_of c) ≡ false) changes.now }
+        ensures states { (folder : defined.Folder) → AreCheckpointsOf folder self.now
+            → HaveAbsorbed (result.1 ∷ [])
+            (group_buffers result.0 folder (map change_of changes.now)) }
+    {
+        let mut start = (Split::Beginning, Midstate::new());
+        for (name, state) in &self.list {
+            let split = Split::At(name);
+            if !are_behind(split, changes) {
+                return start;
+            }
+            start = (split, *state);
+        }
+        start
+    }
+}
+
+// The most checkpoints: each takes a name and a state, and interrupts the two messages that are absorbed in lanes.
+const MOST_CHECKPOINTS: usize = 64;
+
+/// The results of one pass over a folder and a buffer.
+#[derive(Drop)]
+pub struct FolderFingerprint {
+    /// The folder's fingerprint: see [`Folder::fingerprint`].
+    pub fingerprint: [u8; 16],
+    /// The MD5 digest of the buffer.
+    pub digest: [u8; 16],
+    pub checkpoints: Checkpoints,
+}
+
+// How far `fingerprint_with_checkpoints` has come: the states of the fingerprint and of the buffer's MD5.
+#[derive(Clone, Copy, Drop)]
+struct Progress {
+    folder: Midstate,
+    bytes: Midstate,
+    // The number of bytes of the buffer that are absorbed.
+    taken: usize,
+}
+
+// The names of the checkpoints: every n-th of the folder's names from the first on, with the least n that leaves at
+// most `MOST_CHECKPOINTS`.
+fn checkpoint_names(alloc: Global, snapshot: &Snapshot) -> Result<Vec<Name>>
+    ensures { 0 < length (files_in snapshot.now) → IfOk result (λ names. 0 < length names.items) }
+{
+    let step = snapshot.files.len().div_ceil(MOST_CHECKPOINTS).max(1);
+    let checkpointed = snapshot.files.iter().step_by(step);
+    checkpointed.map(|file| file.0.copied()).collect(alloc)
+}
+
+// Absorbs the files from the split `from` to the split `to`, and in a second lane about as many bytes of the buffer, as
+// far as it has them. `IsAt`: the files before the split and the first `taken` bytes of the buffer are absorbed.
+fn advance_to<'a>(
+    alloc: Global,
+    snapshot: &Snapshot<'a>,
+    bytes: &'a [u8],
+    progress: Progress,
+    from: Split<'_>,
+    to: Split<'_>,
+) -> Result<Progress>
+    requires further { IsFurther from to }
+    requires here { IsAt from (folder_in snapshot.now) bytes.now progress }
+    ensures there { IfOk result (IsAt to.entry (folder_in snapshot.now) bytes.now) }
+{
+    let files = snapshot.pending_between(alloc, progress.folder, from, to)?;
+    let lent = files.parts.iter().map(|part| match part {
+        Part::Bytes(bytes) => bytes.len(),
+        _ => 0,
+    });
+    let lent = lent.fold(0, usize::saturating_add);
+    let end = bytes.len().min(progress.taken.saturating_add(lent));
+    let extra = pending_of_bytes(alloc, progress.bytes, &bytes[progress.taken..end])?;
+    let states = absorb_each(&[files, extra]);
+    Ok(Progress {
+        folder: states[0],
+        bytes: states[1],
+        taken: end,
+    })
+}
+
+/// The folder's fingerprint, the MD5 digest of a buffer that is computed beside it, and checkpoints of the folder.
+/// Opening a store calls it with the journal's bytes as the buffer. The session's next command uses the checkpoints.
+pub fn fingerprint_with_checkpoints<'a>(
+    alloc: Global,
+    folder: &'a Folder,
+    bytes: &'a [u8],
+) -> Result<FolderFingerprint>
+    ensures fingerprint { IfOk result (λ found. found.fingerprint ≡ fingerprint folder.now.files) }
+    ensures digest { IfOk result (λ found. found.digest ≡ md5 bytes.now) }
+    ensures checkpoints { IfOk result (λ f. AreCheckpointsOf folder.now.files f.checkpoints) }
+    ensures some { IfOk result (λ found. HasCheckpoint folder.now.files found.checkpoints) }
+{
+    let snapshot = folder.snapshot()?;
+    let names = checkpoint_names(alloc, &snapshot)?;
+    let mut checkpoints = Checkpoints::none(alloc);
+    let mut split = Split::Beginning;
+    let mut progress = Progress {
+        folder: Midstate::new(),
+        bytes: Midstate::new(),
+        taken: 0,
+    };
+    for name in &names {
+        if split.comes_before(name) {
+            progress = advance_to(alloc, &snapshot, bytes, progress, split, Split::At(name))?;
+            checkpoints.mark(name, progress.folder)?;
+            split = Split::At(name);
+        }
+    }
+    let mut end = advance_to(alloc, &snapshot, bytes, progress, split, Split::End)?;
+    end.bytes.absorb(&[Part::Bytes(&bytes[end.taken..])]);
+    Ok(FolderFingerprint {
+        fingerprint: end.folder.digest(),
+        digest: end.bytes.digest(),
+        checkpoints,
+    })
+}
+
+/// The result of `checkpoint_at`: a checkpoint of a folder, and the digests of buffers that were computed beside it.
+#[derive(Drop)]
+pub struct Checkpointed {
+    pub checkpoints: Checkpoints,
+    /// The MD5 digests of the buffers.
+    pub beside: Vec<[u8; 16]>,
+}
+
+/// A checkpoint of the folder at a name, and the MD5 digests of buffers, computed side by side. The checkpoint starts
+/// from the last one in `from` up to the name, and serves fingerprints along changes that touch no lesser name. A create
+/// calls it with its index, the least name that it writes, and with the bytes of its inputs.
+pub fn checkpoint_at(
+    alloc: Global,
+    folder: &Folder,
+    from: &Checkpoints,
+    name: &Name,
+    beside: &[&[u8]],
+) -> Result<Checkpointed>
+    requires { AreCheckpointsOf folder.now.files from.now }
+    ensures checkpoints { IfOk result (λ made. AreCheckpointsOf folder.now.files made.checkpoints) }
+    ensures some { IfOk result (λ made. HasCheckpoint folder.now.files made.checkpoints) }
+    ensures beside { IfOk result (λ made. made.beside.items ≡ map md5 (buffers_of beside.now)) }
+{
+    let snapshot = folder.snapshot()?;
+    // A create's first change is one of this name.
+    let (split, state) = from.start(&[Change::Remove(name.copied())]);
+    let mut absorbing = Absorbing::new(alloc);
+    absorbing.push(snapshot.pending_between(alloc, state, split, Split::At(name))?)?;
+    let states = states_with(alloc, absorbing, beside)?;
+    let beside = digests_of(alloc, &states[1..])?;
+    let mut checkpoints = Checkpoints::none(alloc);
+    checkpoints.mark(name, states[0])?;
+    Ok(Checkpointed {
+        checkpoints,
+        beside,
+    })
 }

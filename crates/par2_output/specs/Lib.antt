@@ -1,2 +1,1 @@
-pub mod PrinterStates
-pub mod PrintedValues
+pub mod Printing

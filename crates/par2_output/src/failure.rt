@@ -1,11 +1,10 @@
-//! The line of a failure: `write_failure` chooses the reason, and `write_fault` does so for a refused command and adds
-//! the name (`word`) or the numbers that complete it.
+//! The line of a failure: `write_failure` chooses the reason, and for a refused command adds the name (`word`) or the
+//! numbers that complete it.
 #![tactic(auto, unfolding(par2_spec::specs::Output::error_of, par2_spec::specs::Output::failure_line, par2_spec::specs::Output::fault_line))]
 
 ghost use Rattle.std.specs.Prelude.{◌≡◌, ◌++◌, ◌∷◌, codes, map, string_bytes};
-ghost use Rattle.par2_spec.specs.Output.{error_of, fault_line, word_at};
-ghost use Rattle.par2_output.specs.PrintedValues.{words_given};
-ghost use Rattle.par2_output.specs.PrinterStates.{PrinterWrote, Prints};
+ghost use Rattle.par2_spec.specs.Prelude.{error_of, word_at};
+ghost use Rattle.par2_output.specs.Printing.{words_given, PrinterWrote, Prints};
 
 use crate::printer::{Printer, Written, write_line};
 use crate::report::write_lost;
@@ -20,10 +19,7 @@ fn listed<'a>(base: &'a str, further: &'a [String], place: usize) -> &'a str
     if place == 0 {
         return base;
     }
-    match further.get(place - 1) {
-        Some(name) => name.as_str(),
-        None => "",
-    }
+    further.get(place - 1).map_or("", |name| name.as_str())
 }
 
 // The name at a place of a command, which a fault refers to: 0 is the base, k the k-th further name. Empty if there is
@@ -40,37 +36,11 @@ fn word<'a>(command: Option<&'a Command>, place: usize) -> &'a str
     }
 }
 
-// Writes `par2: ` and the reason, as a line, for a failure that names no word.
-fn write_reason<W: Write>(out: &mut Printer<W>, reason: &str) -> Written
-    ensures { Prints W.contents out.old out.new (codes "par2: " ++ reason.now) result }
-{
-    write_line(out, &["par2: ", reason])
-}
-
 // Writes `par2: `, the reason and the word that it is about, as a line.
 fn write_reason_with<W: Write>(out: &mut Printer<W>, reason: &str, word: &str) -> Written
     ensures { Prints W.contents out.old out.new (codes "par2: " ++ reason.now ++ word.now) result }
 {
     write_line(out, &["par2: ", reason, word])
-}
-
-// Writes the line of a refused command: the reason of the fault, and the name at its place, or the numbers of lost
-// slices. `command` is the command that was read.
-fn write_fault<W: Write>(out: &mut Printer<W>, command: Option<&Command>, fault: Fault) -> Written
-    ensures { Prints W.contents out.old out.new
-        (codes "par2: " ++ fault_line (words_given command.entry) fault) result }
-{
-    let reason = fault.reason();
-    match fault {
-        Fault::BadName(place)
-        | Fault::DuplicateInput(place)
-        | Fault::NoSuchFile(place)
-        | Fault::EmptyFile(place) => write_reason_with(out, reason, word(command, place)),
-        Fault::NotRepairable { missing, rank } => {
-            write_lost(out, "par2: not repairable, ", missing, rank)
-        }
-        _ => write_reason(out, reason),
-    }
 }
 
 const USAGE: &str =
@@ -89,12 +59,25 @@ pub fn write_failure<W: Write>(
         (error_of (words_given command.entry) failure) result }
 {
     match failure {
-        Failure::Refused(fault) => write_fault(out, command, fault),
-        Failure::Store => write_reason(out, "a file could not be read or written"),
-        Failure::Arguments => write_reason(out, USAGE),
-        Failure::JournalInvalid => write_reason(out, "the journal is not valid"),
-        Failure::FolderChanged => write_reason(out, "the folder is not as the journal left it"),
-        Failure::NothingToUndo => write_reason(out, "nothing to undo"),
-        Failure::NothingToRedo => write_reason(out, "nothing to redo"),
+        Failure::Refused(fault) => match fault {
+            Fault::BadName(place)
+            | Fault::DuplicateInput(place)
+            | Fault::NoSuchFile(place)
+            | Fault::EmptyFile(place) => {
+                write_reason_with(out, fault.reason(), word(command, place))
+            }
+            Fault::NotRepairable { missing, rank } => {
+                write_lost(out, "par2: not repairable, ", missing, rank)
+            }
+            _ => write_line(out, &["par2: ", fault.reason()]),
+        },
+        Failure::Store => write_line(out, &["par2: a file could not be read or written"]),
+        Failure::Arguments => write_line(out, &["par2: ", USAGE]),
+        Failure::JournalInvalid => write_line(out, &["par2: the journal is not valid"]),
+        Failure::FolderChanged => {
+            write_line(out, &["par2: the folder is not as the journal left it"])
+        }
+        Failure::NothingToUndo => write_line(out, &["par2: nothing to undo"]),
+        Failure::NothingToRedo => write_line(out, &["par2: nothing to redo"]),
     }
 }

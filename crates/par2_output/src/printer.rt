@@ -1,8 +1,8 @@
 //! Writers whose failures are counted, and writing lines to them. `write_line` writes each string with `write_bytes`,
 //! which calls `Printer::write` until all bytes are taken. A run flushes once, at its end.
-ghost use Rattle.std.specs.Prelude.{◌≡◌, ◌+◌, [], OnOk, OnErr};
+ghost use Rattle.std.specs.Prelude.{◌≡◌, ◌+◌, ◌<◌, ◌≤◌, [], IfOk, OnOk, OnErr, length, take, true};
 ghost use Rattle.std.specs.List.{flat_map};
-ghost use Rattle.par2_output.specs.PrinterStates.{IsFlushed, PrinterTookAll, PrinterTookSome, PrinterWrote, Prints, TookInVain, failures_of, writer_of};
+ghost use Rattle.par2_output.specs.Printing.{PrinterTookAll as TookAll, PrinterWrote, Prints, TookInVain};
 
 use par2_disk::Count;
 use std::io::{ErrorKind, Write};
@@ -28,8 +28,8 @@ pub struct Printer<W: Write> {
 impl<W: Write> Printer<W> {
     /// A printer whose writer has not failed yet.
     pub fn new(writer: W) -> Self
-        ensures writer { writer_of result ≡ writer }
-        ensures failures { failures_of result ≡ 0 }
+        ensures writer { result.writer ≡ writer }
+        ensures failures { result.failures.count ≡ 0 }
     {
         Printer {
             writer,
@@ -40,34 +40,26 @@ impl<W: Write> Printer<W> {
 
     /// Returns the writer without flushing it. The program doesn't call it; tests look at what a writer took.
     pub fn into_inner(self) -> W
-        ensures { result ≡ writer_of self }
+        ensures { result ≡ self.writer }
     {
         self.writer
     }
 
     // Counts a failure of the writer, and returns the fault to report.
     fn fault(&mut self) -> WriteFault
-        ensures writer { writer_of self.new ≡ writer_of self.old }
-        ensures failures { failures_of self.new ≡ failures_of self.old + 1 }
+        ensures writer { self.new.writer ≡ self.old.writer }
+        ensures failures { self.new.failures.count ≡ self.old.failures.count + 1 }
     {
         self.failures.rise();
         WriteFault
     }
 
-    // Counts a failure after `u64::MAX` interrupted calls in a row, and returns the fault to report. The `requires`
-    // rules out giving up earlier.
-    fn give_up(&mut self, interruptions: u64) -> WriteFault
-        requires { interruptions ≡ u64.MAX }
-        ensures writer { writer_of self.new ≡ writer_of self.old }
-        ensures failures { failures_of self.new ≡ failures_of self.old + 1 }
-    {
-        self.fault()
-    }
-
-    // One step of `write_bytes`: writes some of the bytes and returns how many. An interrupted call is made again. Any
-    // other error counts as a failure, and so does a writer that takes no byte.
+    // One step of `write_bytes`: writes some of the bytes and returns how many. An interrupted call is made again, up to
+    // `u64::MAX` times. Any other error counts as a failure, and so does a writer that takes no byte.
     fn write(&mut self, bytes: &[u8]) -> Result<usize, WriteFault>
-        ensures { PrinterTookSome W.contents self.old self.new bytes.now result }
+        ensures some { IfOk result (λ n. (0 < n) × (n ≤ length bytes.now)) }
+        ensures took { IfOk result (λ n. TookAll W.contents self.old self.new (take n bytes.now)) }
+        ensures none { OnErr result (TookInVain W.contents self.old self.new []) }
     {
         self.is_flushed = false;
         let mut interruptions = 0;
@@ -79,14 +71,15 @@ impl<W: Write> Printer<W> {
                 Err(_) => return Err(self.fault()),
             }
         }
-        Err(self.give_up(interruptions))
+        prove!(interruptions == u64::MAX);
+        Err(self.fault())
     }
 
     /// Flushes the writer, as the last step of printing. An interrupted call is made again; any other error counts as a
     /// failure.
     pub fn flush(&mut self) -> Written
-        ensures flushed { OnOk result (IsFlushed self.new) }
-        ensures kept { OnOk result (PrinterTookAll W.contents self.old self.new []) }
+        ensures flushed { OnOk result (self.new.is_flushed ≡ true) }
+        ensures kept { OnOk result (TookAll W.contents self.old self.new []) }
         ensures failed { OnErr result (TookInVain W.contents self.old self.new []) }
     {
         let mut retries = 0;
@@ -100,7 +93,8 @@ impl<W: Write> Printer<W> {
                 Err(_) => return Err(self.fault()),
             }
         }
-        Err(self.give_up(retries))
+        prove!(retries == u64::MAX);
+        Err(self.fault())
     }
 }
 
@@ -110,10 +104,8 @@ fn write_bytes<W: Write>(out: &mut Printer<W>, bytes: &[u8]) -> Written
 {
     let mut rest = bytes;
     while !rest.is_empty() {
-        match out.write(rest) {
-            Ok(n) => rest = &rest[n..],
-            Err(fault) => return Err(fault),
-        }
+        let n = out.write(rest)?;
+        rest = &rest[n..];
     }
     Ok(())
 }

@@ -4,10 +4,8 @@
 //! `Prints`: the same of a line.
 ghost use Rattle.std.specs.Prelude.{◌≡◌, ◌++◌, codes, decimal};
 ghost use Rattle.hex.specs.Hex.{encode_lower};
-ghost use Rattle.par2_spec.specs.Reports.{Report};
-ghost use Rattle.par2_spec.specs.Output.{lost_line, note_line, of_all, step_line, target_line, verdict_words};
-ghost use Rattle.par2_output.specs.PrintedValues.{step_shown, target_shown};
-ghost use Rattle.par2_output.specs.PrinterStates.{PrinterWrote as Wrote, Prints};
+ghost use Rattle.par2_spec.specs.Prelude.{Report, lost_line, note_line, of_all, step_line, target_line, verdict_words};
+ghost use Rattle.par2_output.specs.Printing.{step_shown, target_shown, PrinterWrote as Wrote, Prints};
 
 use crate::printer::{Printer, Written, write_line};
 use itoa::Buffer;
@@ -53,8 +51,7 @@ fn write_counts<W: Write>(out: &mut Printer<W>, state: &str, target: PrintedTarg
     ensures { Prints W.contents out.old out.new (state.now ++ target.entry.name.now ++ codes " "
         ++ of_all (target_shown target.entry)) result }
 {
-    let mut found = Buffer::new();
-    let mut total = Buffer::new();
+    let (mut found, mut total) = (Buffer::new(), Buffer::new());
     let (found, total) = (found.format(target.found), total.format(target.total));
     write_line(out, &[state, target.name, " ", found, "/", total])
 }
@@ -83,8 +80,7 @@ pub(crate) fn write_lost<W: Write>(
 ) -> Written
     ensures { Prints W.contents out.old out.new (start.now ++ lost_line lost rank) result }
 {
-    let mut slices = Buffer::new();
-    let mut kept = Buffer::new();
+    let (mut slices, mut kept) = (Buffer::new(), Buffer::new());
     let (lost, rank) = (slices.format(lost), kept.format(rank));
     write_line(out, &[start, "lost ", lost, ", rank ", rank])
 }

@@ -1,7 +1,6 @@
 -- A store that passes its first calls on to another store, and then fails.
 use Rattle.std.specs.Prelude.{◌≡◌, ◌⊎◌, ℕ, ◌+◌, ◌<◌, Bool, true, false, List, Result, IsErr, IsErrOf}
-use Rattle.par2_spec.specs.Changes.{Change, Write, Replace, Rename, Remove}
-use Rattle.par2_spec.specs.Stores.{Contents, with_change, with_journal}
+use Rattle.par2_spec.specs.Prelude.{Change, Write, Replace, Rename, Remove, Contents, with_change, with_journal}
 use Rattle.par2_stores.specs.declared.fuse.BorrowedChange.{BorrowedChange}
 use Rattle.par2_stores.specs.declared.fuse.BorrowedChange.TheVariants as borrowed
 use Rattle.par2_stores.specs.declared.fuse.Fate.{Fate}
@@ -10,7 +9,7 @@ use Rattle.par2_stores.specs.declared.fuse.FuseStore.{FuseStore}
 use Rattle.par2_disk.specs.declared.store.ReadFault.{ReadFault}
 use Rattle.par2_disk.specs.declared.store.ReadFault.TheVariants.{Store}
 use Rattle.par2_disk.specs.declared.store.StoreFault.{StoreFault}
-use Rattle.par2_disk.specs.declared.view.Store.{Ghosts as StoreOf}
+use Rattle.par2_disk.specs.declared.store.Store.{Ghosts as StoreOf}
 
 -- the store that it passes calls on to
 abbrev pub inner_store : {S : Type 0} → FuseStore S → S

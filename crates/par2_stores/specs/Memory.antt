@@ -1,6 +1,6 @@
 -- A store in memory: its contents, and the counts of its failures, of calls that can't be done, and of writing calls.
 use Rattle.std.specs.Prelude.{ℕ}
-use Rattle.par2_spec.specs.Stores.{Contents}
+use Rattle.par2_spec.specs.Prelude.{Contents}
 use Rattle.par2_stores.specs.declared.memory.MemoryStore.{MemoryStore}
 
 -- the files and the journal

@@ -24,7 +24,7 @@ impl MemoryStore {
     ghost use Rattle.par2_spec.specs.Changes.{is_applicable, places_taken};
     ghost use Rattle.par2_spec.specs.Stores.{with_change};
     ghost use Rattle.par2_stores.specs.Memory.{memory_contents, memory_failures, memory_impossible, memory_writing_calls};
-    ghost use Rattle.par2_files.specs.ChangeViews.{change_of};
+    ghost use Rattle.par2_files.specs.Folders.{change_of};
 
     /// A store without files and without a journal, with no failures yet.
     pub fn new(alloc: Global) -> Self

@@ -1,5 +1,5 @@
-use Rattle.par2_spec.proofs.TestLaws.{by_either}
-use Rattle.par2_arguments.proofs.Common.{◌≡◌, ◌∙◌, ap, subst, sym, true≢false, string_bytes, map, [], Some, is_some, option_and_then, IfErr-weaker, IfOk-weaker, err_from_is_err_and, App, HasMatchesOf, fault_of, found_of, rows_of, subcommand_of, takes, meaning, par2_app}
+use Rattle.par2_spec.proofs.ListsLaws.{by_either}
+use Rattle.par2_arguments.proofs.Common.{◌≡◌, ◌∙◌, ap, subst, sym, true≢false, string_bytes, map, Some, is_some, option_and_then, IfErr-weaker, IfOk-weaker, err_from_is_err_and, App, HasMatchesOf, found_of, rows_of, subcommand_of, meaning, par2_app}
 use Rattle.par2_arguments.proofs.Subcommands.{faultless, known, met, unmet}
 use Rattle.par2_arguments.proofs.read.read_words.Goals.{In-Ok, In-Some}
 use Rattle.par2_arguments.proofs.read.read_words.Goals as goal
@@ -7,9 +7,6 @@ use Rattle.par2_arguments.proofs.read.read_words.Goals as goal
 -- what clap found
 matches_so : (c : In-Ok) → HasMatchesOf par2_app (map string_bytes c.args.words.now) c.in-Ok.matches
 matches_so c = subst (λ (app : App). HasMatchesOf app (map string_bytes c.args.words.now) c.in-Ok.matches) c.in_ok-par2_command.ensures.0 c.in-Ok.ensures.matches
-
-faultless_so : (c : In-Ok) → fault_of par2_app (map string_bytes c.args.words.now) ≡ []
-faultless_so c = faultless _ (map string_bytes c.args.words.now) c.in_ok-par2_command.ensures.0 c.in-Ok.ensures.kinds
 
 -- the subcommand that it found
 met_so : (c : In-Some) → HasMatchesOf par2_app (map string_bytes c.args.words.now) c.in-Ok.matches → subcommand_of par2_app (map string_bytes c.args.words.now) ≡ Some (c.in-Some.name.now, rows_of (found_of c.in-Some.matches.now))
@@ -20,23 +17,16 @@ returns-in_err-par2_command-clause-arguments c = λ taken there.
     let reported = err_from_is_err_and c.from_residual.result c.from_residual.ensures.1 in
     rw reported.1 reported.2
 
-pub returns-in-Err-clause-arguments : goal.returns-in-Err-clause-arguments
-returns-in-Err-clause-arguments c = λ taken there.
-    c.fault_for.ensures.memory (c.in-Err.ensures.passes (ap (λ (app : App). takes app (map string_bytes c.args.words.now)) c.in_ok-par2_command.ensures.0 ∙ taken))
-
 pub returns-in-Some-clause-command : goal.returns-in-Some-clause-command
 returns-in-Some-clause-command c =
     let is = met_so (goal.at.returns-in-Some-clause-command c).In-Some (matches_so (goal.at.returns-in-Some-clause-command c).In-Ok) in
-    IfOk-weaker c.named.result _ _ (λ d h. ap (option_and_then meaning) is ∙ h) c.named.ensures.0
+    IfOk-weaker c.named.result _ _ (λ d h. record { requested = ap (option_and_then meaning) is ∙ h; faultless = faultless _ (map string_bytes c.args.words.now) c.in_ok-par2_command.ensures.0 c.in-Ok.ensures.kinds }) c.named.ensures.ok
 
 pub returns-in-Some-clause-arguments : goal.returns-in-Some-clause-arguments
 returns-in-Some-clause-arguments c = λ taken there.
     let is = met_so (goal.at.returns-in-Some-clause-arguments c).In-Some (matches_so (goal.at.returns-in-Some-clause-arguments c).In-Ok) in
-    IfErr-weaker c.named.result _ _ (λ e h. by_either h (λ memory. memory) (λ none. absurd (true≢false (sym (known _ _ is) ∙ ap is_some none)))) c.named.ensures.1
+    IfErr-weaker c.named.result _ _ (λ e h. by_either h (λ memory. memory) (λ none. absurd (true≢false (sym (known _ _ is) ∙ ap is_some none)))) c.named.ensures.err
 
-pub returns-clause-arguments : goal.returns-clause-arguments
-returns-clause-arguments c = λ taken there.
-    absurd (unmet c.in-Ok.matches (map string_bytes c.args.words.now) (matches_so (goal.at.returns-clause-arguments c).In-Ok) c.in-None.ensures.name there)
-
-pub returns-in-Some-clause-faultless : goal.returns-in-Some-clause-faultless
-returns-in-Some-clause-faultless c = IfOk-weaker c.named.result _ _ (λ d h. faultless_so (goal.at.returns-in-Some-clause-faultless c).In-Ok) c.named.ensures.0
+pub returns-in-Ok-clause-arguments : goal.returns-in-Ok-clause-arguments
+returns-in-Ok-clause-arguments c = λ taken there.
+    absurd (unmet c.in-Ok.matches (map string_bytes c.args.words.now) (matches_so (goal.at.returns-in-Ok-clause-arguments c).In-Ok) c.in-None.ensures.name there)

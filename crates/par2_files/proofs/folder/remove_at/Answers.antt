@@ -1,5 +1,5 @@
 use Rattle.par2_files.proofs.Common.{◌∙◌, [], ap, Some, sym, get_or_default}
-use Rattle.par2_files.proofs.SortedFiles.{removed, bytes_at, stays_absent}
+use Rattle.par2_files.proofs.SortedFiles.{removed, bytes_at}
 use Rattle.par2_files.proofs.folder.remove_at.Goals as goal
 
 pub returns-clause-bytes : goal.returns-clause-bytes
@@ -7,6 +7,3 @@ returns-clause-bytes c = bytes_at _ c.requires.kept _ _ c.requires.here ∙ ap (
 
 pub returns-clause-files : goal.returns-clause-files
 returns-clause-files c = rw c.remove.ensures.items (removed _ c.requires.kept _ _ c.requires.here)
-
-pub returns-clause-absent : goal.returns-clause-absent
-returns-clause-absent c q none = rw (c.remove.ensures.items, (removed _ c.requires.kept _ _ c.requires.here).folder) (stays_absent _ _ q none)

@@ -1,5 +1,5 @@
 use Rattle.par2_files.proofs.Common.{arith}
-use Rattle.par2_files.proofs.LentChanges.{refilled}
+use Rattle.par2_files.proofs.Lists.{refilled}
 use Rattle.par2_files.proofs.change.Changes.as_mut_slice.Goals as goal
 
 pub returns : goal.returns

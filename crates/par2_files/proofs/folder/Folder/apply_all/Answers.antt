@@ -6,7 +6,7 @@ pub unreachable-requires : goal.unreachable-requires
 unreachable-requires c =
     let lt : c.loop-change.change-index < length c.loop-change.changes = omega arith in
     let none = is_accepted change_of _ _ _ _ _ c.loop-change.invariant lt c.loop-change-test.true _ c.change-item.is in
-    let some = rw (← c.change-item.is) at c.in-Err.ensures.refused in
+    let some = rw (← c.change-item.is) at c.in_default.ensures.refused in
     cc
 
 pub loop-change-preserved : goal.loop-change-preserved

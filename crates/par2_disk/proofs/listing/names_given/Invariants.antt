@@ -1,7 +1,0 @@
-use Rattle.par2_disk.proofs.Common.{[]}
-use Rattle.std.specs.List.{FoldsTo}
-use Rattle.par2_disk.specs.Runtime.{Adds}
-use Rattle.par2_disk.proofs.listing.names_given.Given as goal
-
-abbrev pub invariant-loop-item : goal.invariant-loop-item
-invariant-loop-item g l = FoldsTo (Adds g.E.Entry) [] l.yielded l.names.items

@@ -1,5 +1,0 @@
-use Rattle.par2_files.proofs.Common.{◌≡◌, map, take, message_of, fingerprint_input, file_of}
-use Rattle.par2_files.proofs.snapshot.parts_of.Given as goal
-
-abbrev pub invariant-loop-file : goal.invariant-loop-file
-invariant-loop-file l = message_of l.parts.items ≡ fingerprint_input (map file_of (take l.file-index l.files))
