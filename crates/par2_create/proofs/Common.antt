@@ -15,47 +15,26 @@ pub use Rattle.std.specs.List.{AllByRecursion, IsDistinct, cons_option, enumerat
 pub use Rattle.std.specs.Prelude.{IfSome, codes, filter, filter_map, flat_map, is_some, nat_eq, option_map, position, sum_by, ◌==◌}
 pub use Rattle.std.specs.Str.{bytes_eq, is_utf8}
 pub use Rattle.std.specs.Vec.Iter.{into_iter_items, into_iter_len}
-pub use Rattle.par2_create.specs.Faults.{duplicate_input, existing, long_name}
-unfoldable pub use Rattle.par2_create.specs.Faults.{files_fault, ids_fault, inputs_fault}
-pub use Rattle.par2_create.specs.Outputs.{RecordsInputs, inputs_of, volume_names, put_change, volume_at, volume_file_name, volumes_requested, volumes_of, as_file, blank_volume, volume_exponents, length_with, place_in, places_in, places_of, slice_of, volume_with, with_slices}
+unfoldable pub use Rattle.par2_create.specs.Outputs.{files_fault, ids_fault, inputs_fault}
+pub use Rattle.par2_create.specs.Outputs.{RecordsInputs, duplicate_input, existing, long_name, inputs_of, volume_names, put_change, volume_at, volume_file_name, volumes_of, as_file, blank_volume, volume_exponents, length_with, places_in, places_of, volume_with, with_slices}
 pub use Rattle.par2_create.specs.declared.inputs.Input.{Input}
-pub use Rattle.par2_create.specs.declared.names.Volume.{Volume}
+pub use Rattle.par2_create.specs.declared.inputs.Volume.{Volume}
 pub use Rattle.par2_create.specs.declared.records.Parts.{Parts}
-pub use Rattle.par2_packets.proofs.LaterDigests.{head_of, length-head, length-undigested, part_from, undigested_is}
-pub use Rattle.par2_packets.proofs.Pieces.{drop_behind, length-pieces, piece_at}
-pub use Rattle.par2_packets.specs.Pieces.{ArePieces}
-pub use Rattle.par2_packets.specs.Recoveries.{digested, undigested}
+pub use Rattle.par2_packets.proofs.Pieces.{head_of, length-head, length-undigested, part_from, undigested_is, drop_behind, length-pieces, piece_at}
+pub use Rattle.par2_packets.specs.Recoveries.{ArePieces, digested, undigested}
 pub use Rattle.par2_packets.specs.PacketViews.{file_record_of}
 pub use Rattle.par2_packets.specs.declared.record.FileRecord.{FileRecord}
 pub use Rattle.par2_create.specs.Records.{AreRecords, input_file}
-pub use Rattle.par2_slices.specs.Positions.{buffers_of}
-pub use Rattle.par2_solve.specs.WrittenSlices.{AreWritten, AreZeros, output_at}
-pub use Rattle.par2_spec.proofs.CreateLaws.{create_applies, names_of_outputs}
-pub use Rattle.par2_spec.proofs.ListsLaws.{any-map, map-cond, range-append}
+pub use Rattle.par2_slices.specs.Matching.{buffers_of}
+pub use Rattle.par2_solve.specs.Rebuilding.{AreWritten, AreZeros, output_at}
+pub use Rattle.par2_spec.proofs.AcceptedCommands.{create_applies, names_of_outputs}
+pub use Rattle.par2_spec.proofs.ListsLaws.{any-map, map-cond, range-append, AreDistinct, clash, distinct_from_std, distinct_same, std_from_distinct, answered_so, never_found, refused_by, all_none, at_none, where_none}
 pub use Rattle.par2_spec.proofs.NameTests.{name_is_short, name_of, tests_of}
-pub use Rattle.par2_spec.proofs.NamesLaws.{AreDistinct, clash, distinct_from_std, distinct_same, std_from_distinct}
-pub use Rattle.par2_spec.proofs.PassedAnswers.{answered_so, never_found, refused_by}
 pub use Rattle.par2_spec.proofs.Places.{position-map}
-pub use Rattle.par2_spec.proofs.ReadLaws.{distinct_by_length, size_parts}
-pub use Rattle.par2_spec.proofs.TestLaws.{all_none, at_none, where_none}
+pub use Rattle.par2_spec.proofs.SearchLaws.{distinct_by_length, size_parts}
 pub use Rattle.par2_spec.proofs.TreeLaws.{holds_more}
-pub use Rattle.par2_spec.specs.Changes.{Change, are_applicable, effects}
-pub use Rattle.par2_spec.specs.Commands.{Create, CreateArgs, files_of, outputs_of}
-pub use Rattle.par2_spec.specs.Faults.{fault_at, fault_where, first_fault}
-pub use Rattle.par2_spec.specs.Folders.{File, Folder, bytes_of, has}
-pub use Rattle.par2_spec.specs.NameTrees.{HoldsNames}
-pub use Rattle.par2_spec.specs.Names.{distinct, is_among, is_name, is_par_name}
-pub use Rattle.par2_spec.specs.Packets.{packet}
-pub use Rattle.par2_spec.specs.Plans.{create_changes}
-unfoldable pub use Rattle.par2_spec.specs.Plans.{changes_of}
-pub use Rattle.par2_spec.specs.Refusals.{are_counts, bad_name, is_input_name}
-unfoldable pub use Rattle.par2_spec.specs.Refusals.{after, create_refusal, early_refusal, head_fault, refusal}
-pub use Rattle.par2_spec.specs.Sets.{is_slice_size}
-pub use Rattle.par2_spec.specs.Slices.{padded, slice_at, slice_count, slices}
-pub use Rattle.par2_spec.specs.Sums.{list_at, lists_of}
-pub use Rattle.par2_spec.specs.Views.{create_args_of}
-pub use Rattle.par2_spec.specs.Volumes.{all_slices, creator_bytes, desc_bytes, five_digits, id_of, ifsc_bytes, in_id_order, main_bytes, main_id, packet_of, recovery_bytes, recovery_packets, stem, volume_name, volume_numbers, volume_size, volumes_before}
-unfoldable pub use Rattle.par2_spec.specs.Volumes.{index_packets, record_of, volumes}
+pub use Rattle.par2_spec.specs.Prelude.{Change, are_applicable, effects, Create, CreateArgs, files_of, outputs_of, fault_at, fault_where, first_fault, File, Folder, bytes_of, has, HoldsNames, distinct, is_among, is_name, is_par_name, packet, create_changes, are_counts, bad_name, is_input_name, is_slice_size, padded, recovery, slice_at, slice_count, slices, list_at, lists_of, create_args_of, all_slices, creator_bytes, desc_bytes, five_digits, id_of, ifsc_bytes, in_id_order, main_bytes, main_id, packet_of, recovery_bytes, recovery_packets, stem, volume_name, volume_numbers, volume_size, volumes_before}
+unfoldable pub use Rattle.par2_spec.specs.Prelude.{changes_of, after, create_refusal, early_refusal, head_fault, refusal, index_packets, record_of, volumes}
 pub use Rattle.par2_spec.specs.declared.Fault.{Fault}
 pub use Rattle.par2_spec.specs.declared.Fault.TheVariants.{BadBase, BadCount, BadName, BadSliceSize, DuplicateId, DuplicateInput, EmptyFile, NameTooLong, NoInput, NoSuchFile, TooManySlices}
 pub use Rattle.par2_spec.specs.declared.Kind.TheVariants.{Creator, FileDesc, Ifsc, Main, Recovery}
@@ -65,9 +44,17 @@ pub use Rattle.par2_transform.specs.declared.outputs.Place.{Place}
 abbrev pub volume_if : List ℕ → ℕ → ℕ → ℕ → List Volume
 volume_if base f c i = if nat_lt (volumes_before i) c then volume_at base f c i ∷ [] else []
 
+-- the recovery slice of exponent e
+abbrev pub slice_of : Parts → ℕ → List ℕ
+slice_of parts e = recovery parts.slice (inputs_of parts) e
+
+-- the place of recovery slice k of volume i
+abbrev pub place_in : Parts → (i k : ℕ) → Place
+place_in parts i k = record { buffer = i; at = length_with parts k + 68 }
+
 -- the names of the outputs, the index first
 abbrev pub output_names : CreateArgs → List (List ℕ)
-output_names a = a.base ∷ volume_names (volumes_requested a)
+output_names a = a.base ∷ volume_names (volumes_of a.base a.first a.count)
 
 -- volume j, or an empty one beyond the end
 abbrev pub nth_volume : List Volume → ℕ → Volume

@@ -8,27 +8,27 @@ use Rattle.std.specs.Int.{w128, from_le_bytes}
 use Rattle.par2_spec.specs.Volumes as volumes
 use Rattle.par2_spec.proofs.OrderLaws.{rising_records, files_of_ordered}
 
-ids_of_records : (s : ℕ) (files : List File) → map (λ (file : volumes.FileRecord). file.id) (map (record_of s) files) ≡ map id_of files
-unfolding record_of
-ids_of_records s files = map-map (λ (file : volumes.FileRecord). file.id) (record_of s) files
-
 -- the identifiers in the records are those of the files
-pub ids_said : (s : ℕ) (files : List File) (records : List FileRecord) → AreRecords s files records → map (λ (file : FileRecord). file.id) records ≡ map (λ (file : volumes.FileRecord). file.id) (map (record_of s) files)
-ids_said s files records are = sym (map-map (λ (file : volumes.FileRecord). file.id) file_record_of records) ∙ ap (map (λ (file : volumes.FileRecord). file.id)) are
+pub ids_are : (s : ℕ) (files : List File) (records : List FileRecord) → AreRecords s files records → map (λ (file : FileRecord). file.id) records ≡ map id_of files
+unfolding record_of
+ids_are s files records are =
+    sym (map-map (λ (file : volumes.FileRecord). file.id) file_record_of records) ∙ ap (map (λ (file : volumes.FileRecord). file.id)) are
+    ∙ map-map (λ (file : volumes.FileRecord). file.id) (record_of s) files
 
-pub ids_accepted : (files : List File) (s : ℕ) → IsDistinct bytes_eq (map (λ (file : volumes.FileRecord). file.id) (map (record_of s) files)) → ids_fault files ≡ None
-unfolding ids_fault
-ids_accepted files s h =
-    let once : AreDistinct (map id_of files) = distinct_from_std (map id_of files) (subst (IsDistinct bytes_eq) (ids_of_records s files) h) in
-    let size : length (distinct (map id_of files)) ≡ length files = ap length (distinct_same (map id_of files) once) ∙ length-map files id_of in
-    ap (λ b. fault_where b DuplicateId) (not_from_true (length (distinct (map id_of files)) == length files) (eq-eqb (length (distinct (map id_of files))) (length files) size))
+module _ (s : ℕ) (files : List File) (records : List FileRecord) (are : AreRecords s files records) where
+  pub ids_accepted : IsDistinct bytes_eq (map (λ (file : FileRecord). file.id) records) → ids_fault files ≡ None
+  unfolding ids_fault
+  ids_accepted h =
+      let once : AreDistinct (map id_of files) = distinct_from_std (map id_of files) (subst (IsDistinct bytes_eq) (ids_are s files records are) h) in
+      let size : length (distinct (map id_of files)) ≡ length files = ap length (distinct_same (map id_of files) once) ∙ length-map files id_of in
+      ap (λ b. fault_where b DuplicateId) (not_from_true (length (distinct (map id_of files)) == length files) (eq-eqb (length (distinct (map id_of files))) (length files) size))
 
-pub ids_refused : (files : List File) (s : ℕ) → (IsDistinct bytes_eq (map (λ (file : volumes.FileRecord). file.id) (map (record_of s) files)) → ⊥) → ids_fault files ≡ Some DuplicateId
-unfolding ids_fault
-ids_refused files s h =
-    ap (λ b. fault_where b DuplicateId) (not_from_false (length (distinct (map id_of files)) == length files) (false_from_ne_true (length (distinct (map id_of files)) == length files) (λ e.
-    let size : length (distinct (map id_of files)) ≡ length (map id_of files) = eqb-true (length (distinct (map id_of files))) (length files) e ∙ sym (length-map files id_of) in
-    h (subst (IsDistinct bytes_eq) (sym (ids_of_records s files)) (std_from_distinct (map id_of files) (distinct_by_length (map id_of files) size))))))
+  pub ids_refused : (IsDistinct bytes_eq (map (λ (file : FileRecord). file.id) records) → ⊥) → ids_fault files ≡ Some DuplicateId
+  unfolding ids_fault
+  ids_refused h =
+      ap (λ b. fault_where b DuplicateId) (not_from_false (length (distinct (map id_of files)) == length files) (false_from_ne_true (length (distinct (map id_of files)) == length files) (λ e.
+      let size : length (distinct (map id_of files)) ≡ length (map id_of files) = eqb-true (length (distinct (map id_of files))) (length files) e ∙ sym (length-map files id_of) in
+      h (subst (IsDistinct bytes_eq) (sym (ids_are s files records are)) (std_from_distinct (map id_of files) (distinct_by_length (map id_of files) size))))))
 
 -- one more record, that of the next input
 pub record_push : (s : ℕ) (inputs : List Input) (i : ℕ) (input : Input) (xs : List FileRecord) (x : FileRecord) → i < length inputs → input ≡ get_or inputs i input → AreRecords s (map input_file (take i inputs)) xs

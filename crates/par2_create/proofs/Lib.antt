@@ -1,11 +1,6 @@
 mod Common
 pub mod FileRecords
-mod GoodWords
 mod IndexBytes
-mod OutputChanges
-mod Places
-mod RefusalGroups
-mod VolumeNames
-mod VolumeNumbers
-mod VolumePlaces
+mod Refusals
+mod VolumeLaws
 mod Steps

@@ -1,8 +1,6 @@
 -- Records of files, and their slices.
 use Rattle.std.specs.Prelude.{◌≡◌, ℕ, List, map, string_bytes}
-use Rattle.par2_spec.specs.Commands.{files_of}
-use Rattle.par2_spec.specs.Folders.{File, Folder}
-use Rattle.par2_spec.specs.Volumes.{all_slices, record_of}
+use Rattle.par2_spec.specs.Prelude.{files_of, File, Folder, all_slices, record_of}
 use Rattle.par2_packets.specs.PacketViews.{file_record_of}
 use Rattle.par2_packets.specs.declared.record.FileRecord.{FileRecord}
 use Rattle.par2_create.specs.declared.inputs.Input.{Input}

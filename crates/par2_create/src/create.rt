@@ -1,41 +1,28 @@
 //! Plans a create: the changes that write its outputs, or the fault for which it is refused. `plan_create` checks the
 //! arguments and the inputs, describes the inputs, names the volumes, and lists the changes.
-#![tactic(auto, using(crate::proofs::Steps::create, crate::proofs::RefusalGroups::refused_by))]
+#![tactic(auto, using(crate::proofs::Steps::create, crate::proofs::Refusals::refused_by))]
 
-ghost use Rattle.std.specs.Prelude.{◌≡◌, ◌<◌, ◌&&◌, not, position, map, string_bytes, is_some, if◌then◌else◌, IfOk, IfErr, IfSome, Some, None, ◌++◌, OnOk, ◌≤◌, IsTrue};
-ghost use Rattle.par2_spec.specs.Names as names;
-ghost use Rattle.par2_spec.specs.Views.{create_args_of};
-ghost use Rattle.par2_spec.specs.Refusals.{head_fault, bad_name, after, is_input_name};
-ghost use Rattle.par2_files.specs.ChangeViews.{change_of};
-ghost use Rattle.par2_create.specs.Outputs.{put_change, RecordsInputs, volumes_requested, as_file};
-ghost use Rattle.par2_spec.specs.Changes.{effects, are_applicable};
-ghost use Rattle.par2_spec.specs.Commands.{Create};
-ghost use Rattle.par2_spec.specs.Answers.{FailsFor};
-ghost use Rattle.par2_spec.specs.Plans.{changes_of, create_changes};
+ghost use Rattle.std.specs.Prelude.{◌≡◌, ◌<◌, not, position, map, string_bytes, is_some, IfOk, IfErr, IfSome, Some, None, ◌++◌, OnOk, ◌≤◌, IsTrue};
+ghost use Rattle.par2_spec.specs.Prelude.{create_args_of, head_fault, bad_name, after, is_input_name, effects, are_applicable, Create, FailsFor, changes_of, FailsAs, RefusesEarly, SucceedsAs};
+ghost use Rattle.par2_files.specs.Folders.{change_of};
+ghost use Rattle.par2_create.specs.Outputs.{put_change, RecordsInputs, as_file, inputs_fault};
 ghost use Rattle.par2_files.specs.Checkpoints.{AreCheckpointsOf};
-ghost use Rattle.par2_spec.specs.Planned.{FailsAs, RefusesEarly, SucceedsAs};
-ghost use Rattle.par2_create.specs.Faults.{inputs_fault};
 
-use crate::inputs::{contents_of, files_fault, inputs_in, no_duplicate, set_of};
-use crate::names::{Volume, existing, volumes};
-use crate::records::{Parts, RecoverySet, index_of};
+use crate::inputs::{contents_of, existing, files_fault, inputs_in, no_duplicate, volumes};
+use crate::records::{Parts, file_records, index_of, sorted_by_id};
 use crate::volumes::volume_files;
 use par2_files::{Bytes, Change, Changes, Checkpoints, Folder, Name, checkpoint_at};
+use par2_packets::{DuplicateId, FileRecord};
 use par2_slices::is_slice_size;
 use par2_spec::{CreateArgs, Fault, Result};
 use std::alloc::Global;
 
-// The argument as a name, if it is one of an index (`is_index`), which ends in `.par2`, or one of an input (otherwise),
-// which doesn't.
-fn name_of(word: &str, is_index: bool) -> Option<Name>
-    ensures variant { let is_par = names.is_par_name word.now in
-        is_some result ≡ (names.is_name word.now && (if is_index then is_par else not is_par)) }
+// The argument as the name of an input, if it is one, which doesn't end in `.par2`.
+fn input_name(word: &str) -> Option<Name>
+    ensures variant { is_some result ≡ is_input_name word.now }
     ensures value { IfSome result (λ name. name ≡ word.now) }
 {
-    match Name::new(word) {
-        Ok(name) if name.is_par() == is_index => Some(name),
-        _ => None,
-    }
+    Name::new(word).ok().filter(|name| !name.is_par())
 }
 
 /// The name of the index, if the slice size, the exponents, the base and the number of inputs are valid. Otherwise it
@@ -54,7 +41,8 @@ pub fn index_name(args: &CreateArgs) -> Result<Name, Fault>
     if count > 65536 || first > 65535 || first + count > 65536 {
         return Err(Fault::BadCount);
     }
-    let name = name_of(&args.base, true).ok_or(Fault::BadBase)?;
+    let base = Name::new(&args.base).ok();
+    let name = base.filter(|name| name.is_par()).ok_or(Fault::BadBase)?;
     if args.inputs.is_empty() {
         return Err(Fault::NoInput);
     }
@@ -66,7 +54,7 @@ fn first_bad(words: &[String]) -> Option<usize>
     ensures place { result ≡ position (λ word. not (is_input_name (string_bytes word))) words.now }
     ensures fits { IfSome result (λ place. place < usize.MAX) }
 {
-    words.iter().position(|word| name_of(word, false).is_none())
+    words.iter().position(|word| input_name(word).is_none())
 }
 
 /// The fault `BadName` with the place of the first argument, from 1, that can't be the name of an input. It takes no
@@ -85,7 +73,7 @@ pub(crate) fn input_names(alloc: Global, words: &[String]) -> Result<Vec<Name>>
     requires { bad_name (map string_bytes words.now) ≡ None }
     ensures { IfOk result (λ names. names.items ≡ map string_bytes words.now) }
 {
-    let names = words.iter().filter_map(|word| name_of(word, false));
+    let names = words.iter().filter_map(|word| input_name(word));
     names.collect(alloc)
 }
 
@@ -120,16 +108,16 @@ pub struct Creation {
     pub checkpoints: Checkpoints,
 }
 
-// The set of the inputs, if nothing is wrong with them. Their MD5s are computed side by side with a checkpoint of the
-// folder at `name`, the index, which is the least name that a create writes.
-#[tactic(auto, unfolding(crate::specs::Faults::inputs_fault))]
-fn set_of_inputs(
+// The records of the inputs, if nothing is wrong with them. Their MD5s are computed side by side with a checkpoint of
+// the folder at `name`, the index, which is the least name that a create writes.
+#[tactic(auto, unfolding(crate::specs::Outputs::inputs_fault))]
+fn records_of_inputs(
     alloc: Global,
     folder: &Folder,
     args: &CreateArgs,
     from: &Checkpoints,
     name: &Name,
-) -> Result<(RecoverySet, Checkpoints), Fault>
+) -> Result<(Vec<FileRecord>, Checkpoints), Fault>
     // The slice size and the names are valid, and `from` has checkpoints of this folder.
     requires slice { 1 ≤ args.now.slice }
     requires words { bad_name (map string_bytes args.now.inputs.items) ≡ None }
@@ -138,9 +126,8 @@ fn set_of_inputs(
     // if there is no cause.
     ensures refused { FailsFor (inputs_fault folder.now.files (create_args_of args.now)) result }
     ensures passed { OnOk result (inputs_fault folder.now.files (create_args_of args.now) ≡ None) }
-    // The set describes the inputs in the order of their File IDs, and the checkpoints are of this
-    // folder.
-    ensures set { IfOk result (λ r. RecordsInputs folder.now.files (create_args_of args.now) r.0) }
+    // The records are in the order of the File IDs, and the checkpoints are of this folder.
+    ensures records { IfOk result (λ r. RecordsInputs folder.now.files (create_args_of args.now) r.0.items) }
     ensures checkpoints { IfOk result (λ found. AreCheckpointsOf folder.now.files found.1) }
 {
     let names = input_names(alloc, &args.inputs)?;
@@ -151,42 +138,11 @@ fn set_of_inputs(
     }
     let contents = contents_of(alloc, &inputs)?;
     let checkpointed = checkpoint_at(alloc, folder, from, name, &contents)?;
-    let set = set_of(alloc, &inputs, &checkpointed.beside, args.slice)?;
-    Ok((set, checkpointed.checkpoints))
-}
-
-// The changes that write the index `base` and these volumes, for a create with which nothing is wrong.
-fn outputs_written(
-    alloc: Global,
-    folder: &Folder,
-    args: &CreateArgs,
-    base: Name,
-    set: &RecoverySet,
-    volumes: &[Volume],
-) -> Result<Changes>
-    // Nothing is wrong with the arguments and the inputs.
-    requires head { head_fault (create_args_of args.now) ≡ None }
-    requires inputs { inputs_fault folder.now.files (create_args_of args.now) ≡ None }
-    // The base, the set and the volumes are those of the arguments.
-    requires base { base ≡ string_bytes args.now.base }
-    requires set { RecordsInputs folder.now.files (create_args_of args.now) set.now }
-    requires volumes { volumes.now ≡ volumes_requested (create_args_of args.now) }
-    // It returns the changes of the create.
-    ensures { IfOk result (λ it. it ≡ create_changes folder.now.files (create_args_of args.now)) }
-{
-    let (set_id, index) = index_of(alloc, set.slice, &set.files)?;
-    let parts = Parts {
-        index,
-        set_id,
-        set,
-        folder,
-        volumes,
-    };
-    let files = volume_files(alloc, &parts)?;
-    let mut changes = Changes::new(alloc);
-    changes.push(put_change(folder, base, parts.index))?;
-    push_files(&mut changes, folder, files)?;
-    Ok(changes)
+    let records = file_records(alloc, &inputs, &checkpointed.beside, args.slice)?;
+    match sorted_by_id(records) {
+        Ok(records) => Ok((records, checkpointed.checkpoints)),
+        Err(DuplicateId) => Err(Fault::DuplicateId),
+    }
 }
 
 /// The changes of a create, which write its outputs in order, or why it is refused. It returns `Memory` only if an
@@ -218,12 +174,24 @@ pub fn plan_create(
     if let Some(fault) = bad_name(&args.inputs) {
         return Err(fault);
     }
-    let (set, checkpoints) = set_of_inputs(alloc, folder, args, from, &base)?;
+    let (records, checkpoints) = records_of_inputs(alloc, folder, args, from, &base)?;
     let volumes = volumes(alloc, &base, args.first, args.count)?;
     if let Some(fault) = existing(folder, args.overwrite, &base, &volumes) {
         return Err(fault);
     }
-    let changes = outputs_written(alloc, folder, args, base, &set, &volumes)?;
+    let (set_id, index) = index_of(alloc, args.slice, &records)?;
+    let parts = Parts {
+        index,
+        set_id,
+        slice: args.slice,
+        files: &records,
+        folder,
+        volumes: &volumes,
+    };
+    let files = volume_files(alloc, &parts)?;
+    let mut changes = Changes::new(alloc);
+    changes.push(put_change(folder, base, parts.index))?;
+    push_files(&mut changes, folder, files)?;
     Ok(Creation {
         changes,
         checkpoints,

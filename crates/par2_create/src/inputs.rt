@@ -1,21 +1,19 @@
 //! The input files, and why they can't be taken: `no_duplicate` checks their names, `inputs_in` looks them up, and
-//! `files_fault` checks them before their MD5s are computed. `set_of` makes the set of them.
-#![tactic(auto, using(crate::proofs::Steps::inputs))]
+//! `files_fault` checks them before their MD5s are computed.
+//!
+//! Also the names of the outputs, and why they can't be taken. Volume i has up to 2^i recovery slices, whose
+//! exponents follow those of volume i - 1.
+#![tactic(auto, using(crate::proofs::Steps::inputs), unfolding(crate::specs::Outputs::files_fault))]
 
-ghost use Rattle.std.specs.Prelude.{◌≡◌, ◌≤◌, ◌==◌, nat_lt, length, map, sum_by, position, IfOk, IfSome, OnOk, Some, None, ◌<◌, ◌&&◌, not};
-ghost use Rattle.par2_spec.specs.Slices as spec;
-ghost use Rattle.md5.specs.Md5.{md5};
-ghost use Rattle.par2_spec.specs.Folders.{has};
-ghost use Rattle.par2_spec.specs.Volumes.{in_id_order};
-ghost use Rattle.par2_spec.specs.Commands.{files_of};
-ghost use Rattle.par2_slices.specs.Positions.{buffers_of};
-ghost use Rattle.par2_create.specs.Records.{AreRecords, input_file};
-ghost use Rattle.par2_spec.specs.Answers.{FailsFor};
-ghost use Rattle.par2_create.specs.Faults.{duplicate_input, files_fault, ids_fault};
+ghost use Rattle.std.specs.Prelude.{◌≡◌, ◌≤◌, nat_lt, length, map, sum_by, IfOk, IfErr, OnOk, None, ◌<◌, ◌+◌, ◌-◌, ◌++◌, ◌∷◌, ◌⊎◌, string_bytes, IsTrue};
+ghost use Rattle.std.specs.List.{list_any};
+ghost use Rattle.par2_spec.specs.Prelude.{has, five_digits, files_of, FailsFor, is_par_name, slice_count};
+ghost use Rattle.par2_slices.specs.Matching.{buffers_of};
+ghost use Rattle.par2_spec.specs.Volumes as spec;
+ghost use Rattle.par2_create.specs.Records.{input_file};
+ghost use Rattle.par2_create.specs.Outputs.{duplicate_input, files_fault, existing, long_name, volume_at, volumes_of, volume_names};
 
-use crate::records::{RecoverySet, file_records, sorted_by_id};
 use par2_files::{Folder, Name};
-use par2_packets::DuplicateId;
 use par2_slices::{MOST_SLICES, slice_count};
 use par2_spec::{Fault, Result};
 use std::alloc::Global;
@@ -60,28 +58,10 @@ pub fn contents_of<'f>(alloc: Global, inputs: &[Input<'f>]) -> Result<Vec<&'f [u
     inputs.iter().map(|input| input.bytes).collect(alloc)
 }
 
-// The index, from 0, of the first input that is absent. Only one without bytes is looked up again.
-fn first_absent(folder: &Folder, inputs: &[Input]) -> Option<usize>
-    ensures place { result ≡ position (λ input.
-        length input.bytes.now == 0 && not (has folder.now.files input.name.now)) inputs.now }
-    ensures fits { IfSome result (λ place. place < usize.MAX) }
-{
-    inputs.iter().position(|input| input.bytes.is_empty() && folder.get(input.name).is_none())
-}
-
-// The index, from 0, of the first input that is empty.
-fn first_empty(inputs: &[Input]) -> Option<usize>
-    ensures place { result ≡ position (λ input. length input.bytes.now == 0) inputs.now }
-    ensures fits { IfSome result (λ place. place < usize.MAX) }
-{
-    inputs.iter().position(|input| input.bytes.is_empty())
-}
-
 // Whether the inputs have more than 32,768 slices of `size` bytes, the most that a set may have.
 fn are_too_many(inputs: &[Input], size: u64) -> bool
     requires { 1 ≤ size }
-    ensures { result ≡ nat_lt 32768
-        (sum_by (λ input. spec.slice_count size (length input.bytes.now)) inputs.now) }
+    ensures { result ≡ nat_lt 32768 (sum_by (λ x. slice_count size (length x.bytes.now)) inputs.now) }
 {
     let mut left = MOST_SLICES;
     for i in 0..inputs.len() {
@@ -96,39 +76,119 @@ fn are_too_many(inputs: &[Input], size: u64) -> bool
 
 /// The fault of the inputs' files, if there is one: for the first absent one, then for the first empty one, then for
 /// too many slices of `size` bytes.
-#[tactic(auto, unfolding(crate::specs::Faults::files_fault))]
 pub fn files_fault(folder: &Folder, inputs: &[Input], size: u64) -> Option<Fault>
     requires { 1 ≤ size }
     ensures { result ≡ files_fault folder.now.files size (map input_file inputs.now) }
 {
-    if let Some(place) = first_absent(folder, inputs) {
+    // Only an input without bytes is looked up again.
+    let is_absent = |input: &Input| input.bytes.is_empty() && folder.get(input.name).is_none();
+    if let Some(place) = inputs.iter().position(is_absent) {
         return Some(Fault::NoSuchFile(place + 1));
     }
-    if let Some(place) = first_empty(inputs) {
+    if let Some(place) = inputs.iter().position(|input| input.bytes.is_empty()) {
         return Some(Fault::EmptyFile(place + 1));
     }
     are_too_many(inputs, size).then_some(Fault::TooManySlices)
 }
 
-/// The set of these inputs in the order of their File IDs, with slices of `size` bytes. `md5s` are the MD5s of the inputs.
-/// It fails by `DuplicateId`, or for lack of memory.
-pub fn set_of(
-    alloc: Global,
-    inputs: &[Input],
-    md5s: &[[u8; 16]],
-    size: u64,
-) -> Result<RecoverySet, Fault>
-    requires size { 1 ≤ size }
-    requires md5s { md5s.now ≡ map md5 (map (λ input. input.bytes.now) inputs.now) }
-    ensures refused { FailsFor (ids_fault (map input_file inputs.now)) result }
-    ensures accepted { OnOk result (ids_fault (map input_file inputs.now) ≡ None) }
-    ensures slice { IfOk result (λ set. set.slice ≡ size) }
-    ensures files { IfOk result
-        (λ set. AreRecords size (in_id_order (map input_file inputs.now)) set.files.items) }
+// The most volumes: 17 have room for 131,071 recovery slices, which is more than there are exponents.
+const MOST_VOLUMES: u32 = 17;
+
+/// A volume: its name, and the exponents of its recovery slices.
+#[derive(Drop)]
+pub struct Volume {
+    pub name: Name,
+    pub first: u32,
+    pub count: u32,
+}
+
+// How many recovery slices the volumes before volume `i` have: 2^i - 1, because volume j has 2^j.
+fn volumes_before(i: u32) -> u32
+    requires { i ≤ 17 }
+    ensures { result ≡ spec.volumes_before i }
 {
-    let records = file_records(alloc, inputs, md5s, size)?;
-    match sorted_by_id(records) {
-        Ok(files) => Ok(RecoverySet { slice: size, files }),
-        Err(DuplicateId) => Err(Fault::DuplicateId),
+    (1 << i) - 1
+}
+
+// Appends a number as five digits.
+fn push_five_digits(string: &mut String, n: u32) -> Result<()>
+    ensures { OnOk result (string_bytes string.new ≡ string_bytes string.old ++ five_digits n) }
+{
+    for power in [10000, 1000, 100, 10, 1] {
+        string.push(char::from(b'0' + (n / power % 10) as u8))?;
     }
+    Ok(())
+}
+
+// The name of a volume as a string: the base without `.par2`, then `.vol`, the first exponent, `+`, the number of its
+// recovery slices, and `.par2`.
+fn volume_file_name(alloc: Global, base: &str, first: u32, count: u32) -> Result<String>
+    requires { IsTrue (is_par_name base.now) }
+    ensures { IfOk result (λ string. string_bytes string ≡ spec.volume_name base.now first count) }
+{
+    let mut string = String::from_str(alloc, &base[..base.len() - 5])?;
+    string.push_str(".vol")?;
+    push_five_digits(&mut string, first)?;
+    string.push_str("+")?;
+    push_five_digits(&mut string, count)?;
+    string.push_str(".par2")?;
+    Ok(string)
+}
+
+// Volume `i`, from 0, of a create with `count` recovery slices from exponent `first` on.
+fn volume_at(alloc: Global, base: &Name, first: u32, count: u32, i: u32) -> Result<Volume, Fault>
+    // The base is the name of an index, and the exponents are below 65,536.
+    requires base { IsTrue (is_par_name base.now) }
+    requires exponents { first + count ≤ 65536 }
+    // Volume `i` has a recovery slice.
+    requires number { i ≤ 17 }
+    requires some { spec.volumes_before i < count }
+    // It fails only if the name has more than 255 bytes, or for lack of memory.
+    ensures refused { IfErr result (λ fault. (fault ≡ Fault.Memory)
+        ⊎ ((fault ≡ Fault.NameTooLong) × (255 < length (volume_at base.now first count i).name))) }
+    ensures accepted { IfOk result (λ volume. length volume.name ≤ 255) }
+    // It returns volume `i` of these recovery slices.
+    ensures volume { IfOk result (λ volume. volume ≡ volume_at base.now first count i) }
+{
+    let before = volumes_before(i);
+    let (first, count) = (first + before, (1 << i).min(count - before));
+    let string = volume_file_name(alloc, base.as_str(), first, count)?;
+    match Name::new(&string) {
+        Ok(name) => Ok(Volume { name, first, count }),
+        Err(_) => Err(Fault::NameTooLong),
+    }
+}
+
+/// The volumes of a create with `count` recovery slices from exponent `first` on, in order. It returns `NameTooLong` if
+/// a volume's name would have more than 255 bytes.
+#[tactic(auto, using(crate::proofs::Steps::names))]
+pub fn volumes(alloc: Global, base: &Name, first: u32, count: u32) -> Result<Vec<Volume>, Fault>
+    requires base { IsTrue (is_par_name base.now) }
+    requires exponents { first + count ≤ 65536 }
+    ensures refused { FailsFor (long_name (volume_names (volumes_of base.now first count))) result }
+    ensures short { OnOk result (long_name (volume_names (volumes_of base.now first count)) ≡ None) }
+    ensures volumes { IfOk result (λ volumes. volumes.items ≡ volumes_of base.now first count) }
+{
+    let mut volumes = Vec::new(alloc);
+    for i in 0..MOST_VOLUMES {
+        if volumes_before(i) < count {
+            volumes.push(volume_at(alloc, base, first, count, i)?)?;
+        }
+    }
+    Ok(volumes)
+}
+
+// Whether the index `base` or a volume exists already.
+fn is_there(folder: &Folder, base: &Name, volumes: &[Volume]) -> bool
+    ensures { result ≡ list_any (has folder.now.files) (base.now ∷ volume_names volumes.now) }
+{
+    let mut volumes = volumes.iter();
+    folder.get(base).is_some() || volumes.any(|volume| folder.get(&volume.name).is_some())
+}
+
+/// The fault `Exists`, if the index `base` or a volume exists already and may not be overwritten.
+pub fn existing(folder: &Folder, overwrite: bool, base: &Name, volumes: &[Volume]) -> Option<Fault>
+    ensures { result ≡ existing folder.now.files overwrite (base.now ∷ volume_names volumes.now) }
+{
+    (!overwrite && is_there(folder, base, volumes)).then_some(Fault::Exists)
 }

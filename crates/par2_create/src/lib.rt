@@ -5,12 +5,10 @@
 
 mod create;
 mod inputs;
-mod names;
 mod records;
 mod volumes;
 
 pub use create::{Creation, plan_create};
 pub use inputs::{Input, contents_of, inputs_in};
-pub use par2_files::Changes;
 pub use par2_spec::{CreateArgs, Fault};
-pub use records::{RecoverySet, file_record_by_md5, file_records, input_slices, sorted_by_id};
+pub use records::{file_record_by_md5, file_records, input_slices, sorted_by_id};

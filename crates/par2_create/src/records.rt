@@ -1,7 +1,7 @@
 //! The records of a set's files, and what is made of them: the index, whose packets each volume repeats, and the slices
 //! from which recovery slices are computed. `file_records` makes the records in the order of the inputs, and
 //! `sorted_by_id` orders them by File ID as in a Main packet.
-#![tactic(auto, using(crate::proofs::Steps::records))]
+#![tactic(auto, using(crate::proofs::Steps::records), unfolding(par2_spec::specs::Volumes::index_packets, par2_spec::specs::Volumes::record_of))]
 
 ghost use Rattle.std.specs.Prelude.{◌≡◌, ◌≤◌, ◌↔◌, ℕ, List, map, IfOk, IsOk, IsPermutation, ◌++◌, ◌+◌, ◌%◌, ◌^◌, All, length, flat_map};
 ghost use Rattle.std.specs.List.{IsDistinct};
@@ -9,16 +9,13 @@ ghost use Rattle.std.specs.List.Sorted.{IsStrictlyIncreasing};
 ghost use Rattle.std.specs.Str.{bytes_eq};
 ghost use Rattle.md5.specs.Md5.{md5};
 ghost use Rattle.md5.specs.Md5 as hash;
-ghost use Rattle.par2_spec.specs.Folders.{File, bytes_of};
-ghost use Rattle.par2_spec.specs.Volumes.{in_id_order, record_of, index_packets, main_id};
+ghost use Rattle.par2_spec.specs.Prelude.{File, bytes_of, in_id_order, record_of, index_packets, main_id, packet};
 ghost use Rattle.par2_packets.specs.PacketViews.{record_id_number, file_record_of};
 ghost use Rattle.par2_create.specs.Records.{AreRecords, input_file, slices_of_records};
 ghost use Rattle.par2_spec.specs.Slices as spec;
-ghost use Rattle.par2_slices.specs.Positions.{buffers_of};
-ghost use Rattle.par2_spec.specs.Packets.{packet};
+ghost use Rattle.par2_slices.specs.Matching.{buffers_of};
 
-use crate::inputs::Input;
-use crate::names::Volume;
+use crate::inputs::{Input, Volume};
 use md5::{Digest, Md5};
 use par2_files::{Folder, Name};
 use par2_packets::{
@@ -28,15 +25,6 @@ use par2_packets::{
 use par2_slices::{pairs_of, slice_bytes, slice_count};
 use par2_spec::Result;
 use std::alloc::Global;
-
-/// The slice size of a set and the records of its files.
-#[derive(Drop)]
-pub struct RecoverySet {
-    /// The slice size in bytes.
-    pub slice: u64,
-    /// The files, in the order of their File IDs.
-    pub files: Vec<FileRecord>,
-}
 
 /// The records of these inputs, in this order, for slices of `s` bytes. `md5s` are the MD5s of the inputs, which the
 /// caller computes side by side. `AreRecords`: record k is that of file k.
@@ -78,7 +66,6 @@ const HEAD: usize = 16384;
 
 /// The record of the file of this name and these bytes, for slices of `s` bytes: File ID, MD5s, length, and checksums
 /// of the slices. `md5` is that of the bytes.
-#[tactic(auto, using(std::proofs::lemmas::List::take_min), unfolding(par2_spec::specs::Volumes::record_of))]
 pub fn file_record_by_md5(
     alloc: Global,
     name: &str,
@@ -147,21 +134,22 @@ pub fn input_slices<'a>(
     Ok(all)
 }
 
-/// The parts of the outputs: the bytes of the index, the Recovery Set ID, the set, whose files are in the folder, and the
-/// volumes. The slice size, the number of input slices and the exponents are ones that PAR2 allows.
+/// The parts of the outputs: the bytes of the index, the Recovery Set ID, the slice size, the records of the files, which
+/// are in the folder, and the volumes. The slice size, the number of input slices and the exponents are ones that PAR2
+/// allows.
 #[derive(Drop)]
 pub struct Parts<'a> {
     pub index: Vec<u8>,
     pub set_id: [u8; 16],
-    pub set: &'a RecoverySet,
+    pub slice: u64,
+    pub files: &'a [FileRecord],
     pub folder: &'a Folder,
     pub volumes: &'a [Volume],
     ghost sixteen: { length set_id ≡ 16 },
-    ghost positive: { 1 ≤ set.now.slice },
-    ghost fours: { set.now.slice % 4 ≡ 0 },
-    ghost small: { set.now.slice ≤ 2 ^ 30 },
-    ghost few: { let records = set.now.files.items in
-        length (slices_of_records folder.now.files set.now.slice records) ≤ 32768 },
+    ghost positive: { 1 ≤ slice },
+    ghost fours: { slice % 4 ≡ 0 },
+    ghost small: { slice ≤ 2 ^ 30 },
+    ghost few: { length (slices_of_records folder.now.files slice files.now) ≤ 32768 },
     ghost exponents: { All (λ volume. volume.first + volume.count ≤ 65536) volumes.now },
 }
 
@@ -182,7 +170,6 @@ fn file_len(file: &FileRecord) -> usize {
 
 /// The Recovery Set ID of a set of these files with slices of `s` bytes, and the bytes of its index: Main, the FileDescs,
 /// the IFSCs, Creator. The caller orders the files by File ID, as Main requires; this function keeps their order.
-#[tactic(auto, using(crate::proofs::Steps::records), unfolding(par2_spec::specs::Volumes::index_packets))]
 pub fn index_of(alloc: Global, s: u64, files: &[FileRecord]) -> Result<([u8; 16], Vec<u8>)>
     requires { length files.now ≤ 32768 }
     ensures id { IfOk result (λ made. made.0 ≡ main_id s (map file_record_of files.now)) }
@@ -191,7 +178,7 @@ pub fn index_of(alloc: Global, s: u64, files: &[FileRecord]) -> Result<([u8; 16]
 {
     let set_id = main_id(s, files);
     let lens = files.iter().map(file_len);
-    let len = lens.fold(FRAME_LEN, |sum, len| sum.saturating_add(len));
+    let len = lens.fold(FRAME_LEN, usize::saturating_add);
     let mut index = Vec::with_capacity(alloc, len)?;
     append_main(alloc, &mut index, s, files)?;
     for file in files {

@@ -4,10 +4,10 @@
 
 ghost use Rattle.std.specs.Prelude.{◌≡◌, ◌+◌, length, map, IfOk, OnOk, ◌≤◌};
 ghost use Rattle.par2_spec.specs.Answers.{Appends};
-ghost use Rattle.par2_spec.specs.Sums.{lists_of};
-ghost use Rattle.par2_create.specs.Outputs.{volume_file_name, AreFiles, AreBuffers, blank_volume, volume_exponents, length_with, places_in, places_of, with_slices};
+ghost use Rattle.par2_spec.specs.Prelude.{lists_of};
+ghost use Rattle.par2_create.specs.Outputs.{volume_file_name, AreFiles, blank_volume, volume_exponents, length_with, places_in, places_of, with_slices};
 
-use crate::names::Volume;
+use crate::inputs::Volume;
 use crate::records::{Parts, input_slices};
 use par2_files::Name;
 use par2_gf16::Gf;
@@ -19,14 +19,6 @@ use std::alloc::Global;
 
 // The bytes of a packet before its recovery slice: the header and the exponent.
 const RECOVERY_HEAD: usize = 68;
-
-// The length in bytes of a volume of `count` recovery slices: that of the index and of `count` packets. It saturates,
-// because it only reserves memory.
-fn volume_len(parts: &Parts, count: u32) -> usize {
-    let each = (parts.set.slice as usize).saturating_add(RECOVERY_HEAD);
-    each.saturating_mul(count as usize)
-        .saturating_add(parts.index.len())
-}
 
 // Appends the places of the recovery slices of volume `i`, from 0: buffer `i`, and the offset in bytes of each slice.
 // `bytes` is that buffer, which only the contract uses.
@@ -40,7 +32,7 @@ fn append_places(
     requires { length bytes.now ≡ length_with parts.now volume.now.count }
     ensures { Appends (places_in parts.now (i, volume.now)) places.old places.new result }
 {
-    let packet = RECOVERY_HEAD + parts.set.slice as usize;
+    let packet = RECOVERY_HEAD + parts.slice as usize;
     for k in 0..volume.count {
         let at = parts.index.len() + k as usize * packet + RECOVERY_HEAD;
         places.push(Place { buffer: i, at })?;
@@ -53,15 +45,17 @@ fn blank_volume(alloc: Global, parts: &Parts, volume: &Volume) -> Result<Vec<u8>
     requires { volume.now.first + volume.now.count ≤ 65536 }
     ensures { IfOk result (λ bytes. bytes.items ≡ blank_volume parts.now volume.now) }
 {
-    let mut bytes = Vec::with_capacity(alloc, volume_len(parts, volume.count))?;
+    let size = parts.slice as usize;
+    // The length saturates, because it only reserves memory.
+    let len = (size + RECOVERY_HEAD).saturating_mul(volume.count as usize);
+    let mut bytes = Vec::with_capacity(alloc, len.saturating_add(parts.index.len()))?;
     bytes.extend_from_slice(&parts.index)?;
-    let size = parts.set.slice as usize;
     with_undigested(bytes, &parts.set_id, volume.first, volume.count, size)
 }
 
 // The bytes of all volumes, each in a buffer of its own, with zeros for their recovery slices and MD5s.
 fn blank_volumes(alloc: Global, parts: &Parts) -> Result<Vec<Vec<u8>>>
-    ensures { IfOk result (AreBuffers (blank_volume parts.now) parts.now.volumes.now) }
+    ensures { IfOk result (λ it. lists_of it.items ≡ map (blank_volume parts.now) parts.now.volumes.now) }
 {
     let mut buffers = Vec::with_capacity(alloc, parts.volumes.len())?;
     for volume in parts.volumes {
@@ -87,11 +81,9 @@ fn places(alloc: Global, parts: &Parts, buffers: &[Vec<u8>]) -> Result<Vec<Place
 fn exponents_of(alloc: Global, parts: &Parts) -> Result<Vec<u32>>
     ensures { IfOk result (λ exponents. exponents.items ≡ volume_exponents parts.now.volumes.now) }
 {
-    parts
-        .volumes
-        .iter()
-        .flat_map(|volume| volume.first..volume.first + volume.count)
-        .collect(alloc)
+    let volumes = parts.volumes.iter();
+    let exponents = volumes.flat_map(|volume| volume.first..volume.first + volume.count);
+    exponents.collect(alloc)
 }
 
 // Writes the recovery slices of all volumes at their places in `out`, the buffers of the volumes.
@@ -100,10 +92,10 @@ fn write_slices(alloc: Global, parts: &Parts, out: &mut [Vec<u8>]) -> Result<()>
     ensures { OnOk result (lists_of out.new ≡ map (with_slices parts.now) parts.now.volumes.now) }
 {
     let gf = Gf::new(alloc)?;
-    let inputs = input_slices(alloc, &parts.set.files, parts.set.slice, parts.folder)?;
+    let inputs = input_slices(alloc, parts.files, parts.slice, parts.folder)?;
     let exponents = exponents_of(alloc, parts)?;
     let places = places(alloc, parts, out)?;
-    let outputs = Places::new(&places, parts.set.slice as usize / 2);
+    let outputs = Places::new(&places, parts.slice as usize / 2);
     write_recovery_slices(alloc, &gf, &inputs, &exponents, out, &outputs)
 }
 
@@ -113,7 +105,7 @@ fn digest_volume(alloc: Global, bytes: &mut [u8], parts: &Parts, volume: &Volume
     ensures { OnOk result (bytes.new ≡ volume_file_name parts.now volume.now) }
 {
     let packets = &mut bytes[parts.index.len()..];
-    let size = parts.set.slice as usize;
+    let size = parts.slice as usize;
     digest_recoveries(alloc, packets, size, volume.count as usize)
 }
 
@@ -123,7 +115,7 @@ fn digested(
     parts: &Parts,
     buffers: &mut Vec<Vec<u8>>,
 ) -> Result<Vec<(Name, Vec<u8>)>>
-    requires { AreBuffers (with_slices parts.now) parts.now.volumes.now buffers.old }
+    requires { lists_of buffers.old.items ≡ map (with_slices parts.now) parts.now.volumes.now }
     ensures { IfOk result (AreFiles parts.now parts.now.volumes.now) }
 {
     let mut files = Vec::with_capacity(alloc, parts.volumes.len())?;

@@ -11,34 +11,17 @@ pub use Rattle.std.specs.List.{insert}
 pub use Rattle.std.specs.Prelude.{IfErr, IfOk, IfSome, IsErr, IsErrAnd, IsFalse, MatchResult, OnOk, String, if◌then◌else◌, is_ok, option_map, position, reverse, slice_get, sum_by, unwrap_or, ◌↔◌, ◌⊎◌}
 pub use Rattle.std.specs.Str.{bytes_eq}
 pub use Rattle.std.specs.declared.alloc.Global.{Global}
-pub use Rattle.par2_files.specs.ChangeViews.{change_of}
-pub use Rattle.par2_journal.specs.Ahead.{IsAhead}
-pub use Rattle.par2_journal.specs.Opening.{AnswersOpening, AnswersWhere, IsReportedWhere, OpensAsIs, go_through, session_at}
-pub use Rattle.par2_journal.specs.Ready.{CanBe, Fits, HasPrintsOf, IsReady, action_for, after_commit, changes_by_kind, entries_for, kept_journal, moved, next_changes, next_of, opposite, prints_along}
-pub use Rattle.par2_journal.specs.Sessions.{kept_session}
-pub use Rattle.par2_journal.specs.Spelling.{CompletesHalfway, SpellsReady, SpellsWhere, halfway_with}
-pub use Rattle.par2_journal.specs.Walks.{AreNamesOf, IsSet, WentForth, names_in}
-pub use Rattle.par2_journal.specs.declared.ahead.Next.{Next}
-pub use Rattle.par2_journal.specs.declared.preparation.Kind.{Kind}
-pub use Rattle.par2_journal.specs.declared.preparation.Kind.TheVariants.{Changing, Moving}
-pub use Rattle.par2_journal.specs.declared.preparation.Prepared.{Prepared}
-pub use Rattle.par2_journal_format.specs.JournalViews.{changes_in, halfway_of, journal_from, journal_of}
-pub use Rattle.par2_repair.specs.Drafts.{HasItsMd5s, IsDraft}
-pub use Rattle.par2_repair.specs.declared.draft.Draft.{Draft}
-pub use Rattle.par2_spec.proofs.FolderLaws.{changes_back, gone, more_room_all, state_all_back, state_files, takes_applicable, takes_none, way_back_taken, written}
-pub use Rattle.par2_spec.proofs.SessionLaws.{accepted_next, done_can_walk, done_of_kept, grown_can_walk, leading_walks, next_taken, ok_no_err, redone_can_walk, redone_of_kept, refused_alike, run_leaves, same_ok, same_session, undone_can_walk, undone_of_kept, walked_is_valid}
-pub use Rattle.par2_spec.specs.Changes.{Change, FolderState, Remove, Rename, Write, inverse, is_applicable, places_taken, state_after, state_after_all}
-unfoldable pub use Rattle.par2_spec.specs.Changes.{are_applicable, effect, effects, folders_after, takes_all, way_back}
-pub use Rattle.par2_spec.specs.Commands.{Action, Command, Create, Do, Purge, Redo, Repair, Undo}
-pub use Rattle.par2_spec.specs.Folders.{Folder, bytes_of, fingerprint, has}
-pub use Rattle.par2_spec.specs.History.{Accepted, Ended, History, IsChanging, MayBeRefused, Passed, Refusal, Execution, history_after}
-pub use Rattle.par2_spec.specs.Journals.{HalfwayPart, Journal, Spells}
-pub use Rattle.par2_spec.specs.Opening.{halfway_where, is_valid, opened_by_part}
-unfoldable pub use Rattle.par2_spec.specs.Opening.{halfway_journal, leads, leads_through, settled_journal}
-pub use Rattle.par2_spec.specs.Plans.{LeadsToAfterRequested}
-pub use Rattle.par2_spec.specs.Refusals.{after, early_refusal, refusal}
-pub use Rattle.par2_spec.specs.Sessions.{CanWalk, KeptSession, OnlyGrew, Session, changes_unless, first_entry, history_of, others, session_of_kept, session_unless, session_with}
-unfoldable pub use Rattle.par2_spec.specs.Sessions.{changes_requested, kept_done, kept_redone, kept_undone, session_after, walks}
-pub use Rattle.par2_spec.specs.Output.{Step, step_of}
-pub use Rattle.par2_spec.specs.Views.{action_of, create_args_of}
+pub use Rattle.par2_files.specs.Folders.{change_of}
+pub use Rattle.par2_journal.specs.Sessions.{CanBe, Fits, HasPrintsOf, IsReady, action_for, after_commit, changes_by_kind, entries_for, kept_journal, moved, next_changes, next_of, opposite, prints_along, kept_session, CompletesHalfway, SpellsReady, SpellsWhere, halfway_with, AreNamesOf, IsSet, WentForth, names_in}
+pub use Rattle.par2_journal.specs.Commands.{AnswersOpening, AnswersWhere, IsReportedWhere, OpensAsIs, go_through, session_at}
+pub use Rattle.par2_journal.specs.declared.opening.Next.{Next}
+pub use Rattle.par2_journal.specs.declared.commands.Kind.{Kind}
+pub use Rattle.par2_journal.specs.declared.commands.Kind.TheVariants.{Changing, Moving}
+pub use Rattle.par2_journal.specs.declared.commands.Prepared.{Prepared}
+pub use Rattle.par2_journal_format.specs.Journals.{changes_in, halfway_of, journal_from, journal_of}
+pub use Rattle.par2_repair.specs.Repairing.{HasItsMd5s, IsDraft}
+pub use Rattle.par2_repair.specs.declared.repair.Draft.{Draft}
+pub use Rattle.par2_spec.proofs.FolderLaws.{changes_back, gone, more_room_all, state_all_back, state_files, takes_applicable, takes_none, way_back_taken, written, accepted_next, done_can_walk, done_of_kept, grown_can_walk, leading_walks, next_taken, ok_no_err, redone_can_walk, redone_of_kept, refused_alike, run_leaves, same_ok, same_session, undone_can_walk, undone_of_kept, walked_is_valid}
+pub use Rattle.par2_spec.specs.Prelude.{Change, FolderState, Remove, Rename, Write, inverse, is_applicable, places_taken, state_after, state_after_all, Action, Command, Create, Do, Purge, Redo, Repair, Undo, Folder, bytes_of, fingerprint, has, Accepted, Ended, History, IsChanging, MayBeRefused, Passed, Refusal, Execution, HalfwayPart, Journal, Spells, halfway_where, is_valid, opened_by_part, LeadsToAfterRequested, after, early_refusal, refusal, CanWalk, KeptSession, OnlyGrew, Session, changes_unless, first_entry, others, session_of_kept, session_unless, session_with, Step, step_of, action_of, create_args_of}
+unfoldable pub use Rattle.par2_spec.specs.Prelude.{are_applicable, effect, effects, folders_after, takes_all, way_back, history_after, halfway_journal, leads, leads_through, settled_journal, changes_requested, history_of, kept_done, kept_redone, kept_undone, session_after, walks}
 pub use Rattle.par2_spec.specs.declared.Version.TheVariants.{Two}

@@ -1,12 +1,5 @@
 mod Common
-mod Entries
-mod HistorySteps
-mod Readiness
-pub mod Actions
-pub mod SessionJournals
-mod Ways
-mod Prints
-mod SessionEntries
+pub mod Readiness
 mod Openings
 mod TriedNames
-pub mod Undos
+pub mod Entries

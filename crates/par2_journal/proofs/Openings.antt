@@ -3,7 +3,7 @@ use Rattle.par2_journal.proofs.Common.{◌≡◌, inl, inr, ℕ, ◌+◌, ◌-�
 use Rattle.par2_spec.specs.Opening as defined
 use Rattle.par2_spec.specs.declared.JournalFault.{JournalFault}
 use Rattle.par2_spec.specs.declared.JournalFault.TheVariants.{JournalInvalid, FolderChanged, Memory}
-use Rattle.par2_journal_format.specs.Reading.{IsSealed}
+use Rattle.par2_journal_format.specs.Journals.{IsRefusal, IsSealed}
 use Rattle.par2_journal.specs.declared.opening.Opened.{Opened}
 use Rattle.par2_spec.proofs.StopLaws.{through_applies}
 use Rattle.std.proofs.lemmas.Slice.Eq.{bytes_eq-Decides}
@@ -74,9 +74,14 @@ by_journal f bytes j a spells is holds (Err e) given = record {
   files = given.files;
 }
 
-pub no_journal : (f : Folder) (bytes : List ℕ) → ((j : Journal) → Spells bytes j → ⊥) → defined.Opens f bytes (Err JournalInvalid)
+no_journal : (f : Folder) (bytes : List ℕ) → ((j : Journal) → Spells bytes j → ⊥) → defined.Opens f bytes (Err JournalInvalid)
 unfolding defined.Opens
 no_journal f bytes none = inr (none, refl)
+
+-- bytes that weren't decoded
+pub not_decoded : (folder : FolderState) (bytes : List ℕ) (fault : JournalFault) → IsRefusal bytes fault → AnswersWhere (IsSealed bytes) folder.files (defined.Opens folder.files bytes) (Err (fault, folder))
+not_decoded folder bytes fault (inl memory) = record { opened = tt; refused = λ _. inl memory; reported = inr (inl memory); files = refl }
+not_decoded folder bytes fault (inr (is, none)) = record { opened = tt; refused = λ _. inr (rw is (no_journal folder.files bytes none)); reported = inl is; files = refl }
 
 sealed_or_not : (bytes : List ℕ) → IsSealed bytes ⊎ ¬ (IsSealed bytes)
 sealed_or_not bytes =

@@ -1,19 +1,23 @@
 -- Actions that a session prepares.
-use Rattle.par2_journal.proofs.Common.{Action, Command, Do, Repair, ◌≡◌, ◌≢◌, inl, inr, ℕ, Bool, ◌<◌, ◌≤◌, List, [], ◌∷◌, length, map, None, Some, IsTrue, Result, Ok, Err, true, refl, sym, ap, subst, ◌∙◌, arith, IfOk, IfErr, IsErrAnd, MatchResult, Change, Write, Rename, Remove, places_taken, are_applicable, effects, FolderState, Folder, LeadsToAfterRequested, KeptSession, OnlyGrew, session_of_kept, changes_unless, first_entry, changes_requested, Step, step_of, takes_applicable, Vec, Global, Kind, Prepared, Changing, Moving, CanBe, Fits, HasPrintsOf, IsReady, Next, action_for, after_commit, changes_by_kind, entries_for, next_changes, next_of, prints_along, IsChanging, refusal, after, early_refusal, HasItsMd5s, IsDraft, Draft}
+use Rattle.par2_journal.proofs.Common.{Action, Command, Do, Repair, ◌≡◌, ◌≢◌, inl, inr, ◌⊎◌, ℕ, Bool, ◌<◌, ◌≤◌, List, [], ◌∷◌, length, map, None, Some, IsTrue, Result, Ok, Err, true, refl, sym, ap, subst, ◌∙◌, arith, IfOk, IfErr, IsErrAnd, MatchResult, Change, Write, Rename, Remove, places_taken, are_applicable, effects, FolderState, Folder, LeadsToAfterRequested, KeptSession, OnlyGrew, session_of_kept, changes_unless, first_entry, changes_requested, Step, step_of, takes_applicable, Vec, Global, Kind, Prepared, Changing, Moving, CanBe, Fits, HasPrintsOf, IsReady, Next, action_for, after_commit, changes_by_kind, entries_for, next_changes, next_of, prints_along, IsChanging, refusal, after, early_refusal, HasItsMd5s, IsDraft, Draft, ◌-◌, get_or, take, drop, take_all, length-drop, Option, IfSome, fingerprint, effect, folders_after, reverse, sum_by, ◌+◌, ◌++◌, append-nil, reverse-reverse, take-append-drop, length-reverse, length-take-le, reverse-append, state_after_all, takes_all, way_back, CanWalk, walks, session_with, session_unless, kept_undone, kept_redone, session_after, kept_done, Journal, Spells, halfway_where, settled_journal, halfway_journal, Two, kept_journal, moved, opposite, CompletesHalfway, SpellsReady, SpellsWhere, halfway_with, state_all_back, changes_back, takes_none, next_taken, same_session, same_ok}
+use Rattle.std.proofs.lemmas.List.Sums.{sum_by-take-drop, sum_by-cons}
+use Rattle.std.proofs.lemmas.List.Sorted.{sum_by-IsPermutation, IsPermutation-reverse}
 use Rattle.par2_journal.specs.Commands.{MakesReady, Prepares}
-use Rattle.par2_spec.specs.Changes.{Replace}
-use Rattle.par2_spec.specs.Plans as plans
-use Rattle.par2_spec.specs.History as history
+use Rattle.par2_spec.specs.Prelude.{Replace}
 use Rattle.par2_spec.specs.declared.Fault.{Fault}
 use Rattle.par2_spec.specs.declared.Fault.TheVariants.{Memory, RepairFailed}
-use Rattle.par2_journal.specs.declared.ahead.Next.TheVariants as next
-use Rattle.par2_journal.specs.SessionRefusals.{MayFail, MayRefuse, nothing_for}
-use Rattle.par2_journal.proofs.Actions.{command_done, move_requested, move_done}
-use Rattle.par2_journal.specs.declared.preparation.SessionFault.{SessionFault}
-use Rattle.par2_journal.specs.declared.preparation.SessionFault.TheVariants.{Plan}
+use Rattle.par2_journal.specs.Commands.{MayRefuse, nothing_for}
+use Rattle.par2_journal.proofs.Entries.{command_done, move_requested, move_done, at, back_length}
+use Rattle.par2_journal.specs.declared.commands.SessionFault.{SessionFault}
+use Rattle.par2_journal.specs.declared.commands.SessionFault.TheVariants.{Plan}
+use Rattle.par2_journal_format.specs.Journals.{Begins}
+use Rattle.par2_journal.specs.declared.commands.Journals.{Journals}
+use Rattle.par2_spec.specs.Plans as plans
+use Rattle.par2_spec.specs.History as history
+use Rattle.par2_journal.specs.declared.opening.Next.TheVariants as next
 
 -- a fault of the plan is one of the session
-refused_plan : (s : KeptSession) (command : Command) (fault : Fault) → MayFail command s fault → MayRefuse (Do command) s (Plan fault)
+refused_plan : (s : KeptSession) (command : Command) (fault : Fault) → (fault ≡ Memory) ⊎ (refusal s.folder.files command ≡ Some fault) → MayRefuse (Do command) s (Plan fault)
 unfolding changes_requested
 refused_plan s command fault (inl memory) = inl (ap Plan memory)
 refused_plan s command fault (inr cause) = inr (ap (λ r. changes_unless r (plans.changes_of s.folder.files command)) cause)
@@ -148,3 +152,152 @@ same_entries next.Redo old new grew = grew.redos
 pub same_changes : (kind : Kind) (old new : KeptSession) → OnlyGrew old new → changes_by_kind kind new ≡ changes_by_kind kind old
 same_changes (Changing changes) old new grew = refl
 same_changes (Moving next) old new grew = ap next_of (same_entries next old new grew)
+
+-- The fingerprints before changes and after each.
+
+-- the last one is that of the folder after all changes
+print_at_end : (f : Folder) (cs : List Change) (none : List ℕ) → get_or (prints_along f cs) (length cs) none ≡ fingerprint (effects f cs)
+unfolding folders_after effects
+print_at_end f [] none = refl
+print_at_end f (c ∷ cs) none = print_at_end (effect f c) cs none
+
+pub folders_count : (f : Folder) (cs : List Change) → length (map fingerprint (folders_after f cs)) ≡ length cs
+unfolding folders_after
+folders_count f [] = refl
+folders_count f (c ∷ cs) = omega (arith, folders_count (effect f c) cs)
+
+pub at_end : (prints : List (List ℕ)) (f : Folder) (cs : List Change) → prints ≡ prints_along f cs → get_or prints (length prints - 1) [] ≡ fingerprint (effects f cs)
+at_end prints f cs is =
+    let count : length (prints_along f cs) - 1 ≡ length cs = omega (arith, folders_count f cs) in
+    ap (λ l. get_or l (length l - 1) []) is ∙ ap (λ n. get_or (prints_along f cs) n []) count ∙ print_at_end f cs []
+
+-- those after the first one
+pub each_after : (prints : List (List ℕ)) (f : Folder) (cs : List Change) → prints ≡ prints_along f cs → take (length prints - 1) (drop 1 prints) ≡ map fingerprint (folders_after f cs)
+each_after prints f cs is = take_all (length prints - 1) (drop 1 prints) (omega (arith, length-drop 1 prints)) ∙ ap (drop 1) is
+
+-- the fingerprints along the next undo or redo depend on files and entries alone
+pub along_still : (along : Option (Next × Vec (List ℕ) Global)) (old new : KeptSession) → OnlyGrew old new
+    → IfSome along (λ found. found.1.items ≡ prints_along old.folder.files (next_changes found.0 old)) → IfSome along (λ found. found.1.items ≡ prints_along new.folder.files (next_changes found.0 new))
+along_still None old new grew h = tt
+along_still (Some found) old new grew h = h ∙ (λ i. prints_along (sym grew.files i) (next_of (sym (same_entries found.0 old new grew) i)))
+
+-- Entries that can be those of a session.
+
+-- the places of one side are among those of all
+pub places_before : (es : List (List Change)) (n : ℕ) → sum_by places_taken (reverse (take n es)) ≤ sum_by places_taken es
+places_before es n =
+    let same : sum_by places_taken (reverse (take n es)) ≡ sum_by places_taken (take n es) = sum_by-IsPermutation places_taken (take n es) (reverse (take n es)) (IsPermutation-reverse (take n es)) in
+    omega (arith, same, sum_by-take-drop places_taken es n)
+
+pub places_behind : (es : List (List Change)) (n : ℕ) → sum_by places_taken (drop n es) ≤ sum_by places_taken es
+places_behind es n = omega (arith, sum_by-take-drop places_taken es n)
+
+-- a change takes one place at most
+pub places_counted : (es : List (List Change)) → sum_by places_taken es ≤ sum_by length es
+places_counted [] = omega arith
+places_counted (e ∷ es) =
+    omega (arith, sum_by-cons places_taken e es, sum_by-cons length e es, places_within e, places_counted es)
+
+-- A session's journals, and sessions before and after an undo or redo.
+
+-- ---- the settled journal by a session's fields
+
+abbrev pub settled_with : List ℕ → ℕ → List (List Change) → Journal
+settled_with print cursor entries = record { version = Two; fingerprint = print; cursor = cursor; entries = entries; halfway = None }
+
+module _ (xs : List (List Change)) (n : ℕ) (within : n ≤ length xs) where
+  undo_count : length (reverse (take n xs)) ≡ n
+  undo_count = length-reverse (take n xs) ∙ length-take-le n xs within
+
+  pub settled_at : (folder : FolderState) (room : ℕ) → settled_with (fingerprint folder.files) n xs ≡ kept_journal (at folder xs n room)
+  unfolding settled_journal
+  settled_at folder room =
+      let entries : xs ≡ reverse (reverse (take n xs)) ++ drop n xs = sym (ap (λ l. l ++ drop n xs) (reverse-reverse (take n xs)) ∙ take-append-drop n xs) in
+      λ i. settled_with (fingerprint folder.files) (sym undo_count i) (entries i)
+
+  -- the one after a command
+  pub done_at : (folder : FolderState) (room : ℕ) (cs : List Change)
+      → settled_with (fingerprint (state_after_all folder cs).files) (n + 1) (take n xs ++ way_back folder.files cs ∷ []) ≡ kept_journal (kept_done (at folder xs n room) cs)
+  unfolding settled_journal kept_done
+  done_at folder room cs =
+      let count : n + 1 ≡ length (way_back folder.files cs ∷ reverse (take n xs)) = omega (arith, undo_count) in
+      let entries : take n xs ++ way_back folder.files cs ∷ [] ≡ reverse (way_back folder.files cs ∷ reverse (take n xs)) ++ [] =
+      sym (append-nil (reverse (way_back folder.files cs ∷ reverse (take n xs))) ∙ reverse-append (way_back folder.files cs ∷ []) (reverse (take n xs)) ∙ ap (λ l. l ++ way_back folder.files cs ∷ []) (reverse-reverse (take n xs))) in
+      λ i. settled_with (fingerprint (state_after_all folder cs).files) (count i) (entries i)
+
+-- ---- both journals
+
+halfway_is : (s : KeptSession) (cs back : List Change) → back ≡ way_back s.folder.files cs → halfway_with (kept_journal s) (map fingerprint (folders_after s.folder.files cs)) back ≡ halfway_where Two (session_of_kept s) cs
+unfolding halfway_journal settled_journal way_back
+halfway_is s [] [] e = refl
+halfway_is s [] (b ∷ back) e = absurd (cc)
+halfway_is s (c ∷ cs) [] e =
+    let none : length (way_back s.folder.files (c ∷ cs)) ≡ 0 = ap length (sym e) in
+    let some : length (way_back s.folder.files (c ∷ cs)) ≡ length (c ∷ cs) = back_length s.folder (c ∷ cs) in
+    absurd (omega (arith, none, some))
+halfway_is s (c ∷ cs) (b ∷ back) e = ap (λ back. Some (record (kept_journal s) { halfway = Some (record { fingerprints = map fingerprint (folders_after s.folder.files (c ∷ cs)); back = back }) })) e
+
+pub both_spelled : {E : Type 0} (r : Result Journals E) (kind : Kind) (s : KeptSession) (front : List ℕ) (each : List (List ℕ)) (back : List Change) (j after : Journal) → Begins front j → j ≡ kept_journal s
+    → each ≡ map fingerprint (folders_after s.folder.files (changes_by_kind kind s)) → back ≡ way_back s.folder.files (changes_by_kind kind s) → after ≡ kept_journal (after_commit kind s)
+    → IfOk r (CompletesHalfway front each back) → IfOk r (λ x. Spells x.after.items after) → IfOk r (SpellsReady kind s)
+both_spelled (Err e) kind s front each back j after begins is prints way leads halfway spells = tt
+both_spelled (Ok x) kind s front each back j after begins is prints way leads halfway spells = (
+  subst (SpellsWhere x.halfway) (ap (λ ps. halfway_with (kept_journal s) ps back) prints ∙ halfway_is s (changes_by_kind kind s) back way) (halfway (kept_journal s) (subst (Begins front) is begins)),
+  subst (Spells x.after.items) leads spells,
+)
+
+-- ---- prepared actions
+
+pub requested_session : (action : Action) (before s : KeptSession) (ready : Prepared) → OnlyGrew before s → IsReady action before ready s
+    → session_of_kept (after_commit ready.kind s) ≡ session_with (session_of_kept s) action (changes_by_kind ready.kind s)
+unfolding session_after
+requested_session action before s ready grew is =
+    let same = same_ok (session_with (session_of_kept before) action (changes_by_kind ready.kind before)) (session_of_kept (after_commit ready.kind s)) (sym (ap (session_unless (session_of_kept before) action) is.requested) ∙ is.leads) in
+    sym same ∙ (λ i. session_with (sym (same_session before s grew) i) action (sym (same_changes ready.kind before s grew) i))
+
+-- what is ready can be applied
+next_entry : (folder : FolderState) (entries : List (List Change)) → walks folder entries ≡ true → takes_all folder (next_of entries) ≡ true
+next_entry folder [] h = takes_none folder
+next_entry folder (entry ∷ entries) h = (next_taken folder (entry ∷ entries) entry entries h refl).0
+
+pub move_taken : (next : Next) (s : KeptSession) → CanWalk s → takes_all s.folder (next_changes next s) ≡ true
+move_taken next.Undo s h = next_entry s.folder s.undos h.back
+move_taken next.Redo s h = next_entry s.folder s.redos h.forth
+
+pub kind_taken : (kind : Kind) (s : KeptSession) → CanWalk s → CanBe kind s → takes_all s.folder (changes_by_kind kind s) ≡ true
+kind_taken (Changing cs) s h can = can.0
+kind_taken (Moving next) s h can = move_taken next s h
+
+-- ---- after an undo or redo
+
+pub moved_files : (next : Next) (s : KeptSession) → (moved next s).folder ≡ state_after_all s.folder (next_changes next s)
+unfolding kept_undone kept_redone
+moved_files next.Undo s = refl
+moved_files next.Redo s = refl
+
+pub moved_some : (next : Next) (s : KeptSession) → entries_for (opposite next) (moved next s) ≢ []
+unfolding kept_undone kept_redone
+moved_some next.Undo s none = absurd (cc)
+moved_some next.Redo s none = absurd (cc)
+
+pub moved_entry : (next : Next) (s : KeptSession) → next_changes (opposite next) (moved next s) ≡ way_back s.folder.files (next_changes next s)
+unfolding kept_undone kept_redone
+moved_entry next.Undo s = refl
+moved_entry next.Redo s = refl
+
+undone_back : (folder : FolderState) (undos redos : List (List Change)) (room : ℕ) → undos ≢ [] → takes_all folder (next_of undos) ≡ true
+    → let s : KeptSession = record { folder = folder; undos = undos; redos = redos; room = room } in moved next.Redo (moved next.Undo s) ≡ s
+unfolding kept_undone kept_redone
+undone_back folder [] redos room some h = absurd (some refl)
+undone_back folder (entry ∷ undos) redos room some h = λ i. record { folder = state_all_back folder entry h i; undos = changes_back folder entry h i ∷ undos; redos = redos; room = room }
+
+redone_back : (folder : FolderState) (undos redos : List (List Change)) (room : ℕ) → redos ≢ [] → takes_all folder (next_of redos) ≡ true
+    → let s : KeptSession = record { folder = folder; undos = undos; redos = redos; room = room } in moved next.Undo (moved next.Redo s) ≡ s
+unfolding kept_undone kept_redone
+redone_back folder undos [] room some h = absurd (some refl)
+redone_back folder undos (entry ∷ redos) room some h = λ i. record { folder = state_all_back folder entry h i; undos = undos; redos = changes_back folder entry h i ∷ redos; room = room }
+
+-- the opposite leads back
+pub moved_back : (next : Next) (s : KeptSession) → CanWalk s → entries_for next s ≢ [] → moved (opposite next) (moved next s) ≡ s
+moved_back next.Undo s h some = undone_back s.folder s.undos s.redos s.room some (move_taken next.Undo s h)
+moved_back next.Redo s h some = redone_back s.folder s.undos s.redos s.room some (move_taken next.Redo s h)

@@ -1,9 +1,5 @@
 pub mod StepViews
-pub mod Ready
-pub mod Ahead
-pub mod Sessions
 pub mod SessionRefusals
 pub mod Commands
-pub mod Walks
-pub mod Spelling
+pub mod Sessions
 pub mod Opening

@@ -1,8 +1,120 @@
--- A session by its fields.
-use Rattle.std.specs.Prelude.{◌-◌, ◌≤◌, take, drop, length, reverse, vec_len, vec_capacity}
-use Rattle.par2_spec.specs.Sessions.{KeptSession, CanWalk}
-use Rattle.par2_journal.specs.Ahead.{IsAhead}
+-- Entries that are applied one after the other, prepared actions, and sessions by their fields.
+use Rattle.std.specs.Prelude.{◌≡◌, ℕ, Bool, cond, List, take, drop, reverse, unwrap_or, IsTrue, ◌≢◌, ◌<◌, [], ◌∷◌, map, Ok, IfSome, ◌-◌, ◌≤◌, length, vec_len, vec_capacity, Option, Some, None, Vec}
+use Rattle.par2_spec.specs.Prelude.{get_by, bytes_eq, slice_cmp, nat_cmp, Folder, has, fingerprint, Change, FolderState, effects, state_after_all, takes_all, folders_after, walks, KeptSession, session_of_kept, session_after, changes_requested, kept_done, kept_undone, kept_redone, CanWalk, Action, Undo, Redo, Journal, Spells, settled_journal, halfway_where, step_of}
+use Rattle.std.specs.declared.alloc.Global.{Global}
+use Rattle.par2_journal.specs.declared.opening.Names.{Names}
+use Rattle.par2_spec.specs.declared.Version.TheVariants.{Two}
+use Rattle.par2_journal.specs.declared.opening.Next.{Next}
+use Rattle.par2_journal.specs.declared.commands.Kind.{Kind}
+use Rattle.par2_journal.specs.declared.commands.Kind.TheVariants.{Changing, Moving}
+use Rattle.par2_journal.specs.declared.commands.Prepared.{Prepared}
+use Rattle.par2_files.specs.Checkpoints.{AreCheckpointsOf}
 use Rattle.par2_journal.specs.declared.session.Session.TheInside.{Inside}
+use Rattle.par2_journal_format.specs.Journals.{Begins, changes_in}
+use Rattle.par2_journal.specs.declared.commands.Journals.{Journals}
+use Rattle.par2_files.specs.declared.change.Change as given
+use Rattle.par2_journal.specs.declared.opening.Next.TheVariants as next
+
+-- whether the name has a file after the changes so far
+abbrev pub names_in : Names → List ℕ → Bool
+names_in names name = unwrap_or (get_by (λ k. slice_cmp nat_cmp name k.now) names.touched) (has names.folder.now.files name)
+
+-- these are the names of the folder's files
+abbrev pub AreNamesOf : Folder → (List ℕ → Bool) → Type 0
+AreNamesOf files names = (name : List ℕ) → names name ≡ has files name
+
+-- this name has a file or none, and the others are as before
+abbrev pub IsSet : (List ℕ → Bool) → (List ℕ → Bool) → List ℕ → Bool → Type 0
+IsSet old new name there = (other : List ℕ) → new other ≡ cond (bytes_eq name other) there (old other)
+
+-- the result is right, and if it is true, these are the names of the files afterwards
+pub record IsTried (is_so : Bool) (after : Folder) (names : List ℕ → Bool) (found : Bool) : Type 0 where
+  pub reported : found ≡ is_so
+  pub are : IsTrue found → AreNamesOf after names
+
+-- changes led from files to a folder, and can lead back
+pub record WentForth (old : Folder) (new : FolderState) (way back : List given.Change) : Type 0 where
+  pub files : new.files ≡ effects old (changes_in way)
+  pub taken : IsTrue (takes_all new (changes_in back))
+  pub leads : (state_after_all new (changes_in back)).files ≡ old
+
+-- the entries before the cursor can be applied, the last one first, and so can the others, the first one first
+pub record EntriesWalk (folder : FolderState) (cursor : ℕ) (entries : List (List Change)) : Type 0 where
+  pub back : IsTrue (walks folder (reverse (take cursor entries)))
+  pub forth : IsTrue (walks folder (drop cursor entries))
+
+-- ---- undo and redo
+
+-- the action
+abbrev pub action_for : Next → Action
+action_for next.Undo = Undo
+action_for next.Redo = Redo
+
+-- the one that takes the other back
+abbrev pub opposite : Next → Next
+opposite next.Undo = next.Redo
+opposite next.Redo = next.Undo
+
+-- the entries that undos or redos apply, the next one first
+abbrev pub entries_for : Next → KeptSession → List (List Change)
+entries_for next.Undo s = s.undos
+entries_for next.Redo s = s.redos
+
+-- the next of these entries, or no changes
+abbrev pub next_of : List (List Change) → List Change
+next_of [] = []
+next_of (entry ∷ entries) = entry
+
+-- the changes of the next undo or redo, or none
+abbrev pub next_changes : Next → KeptSession → List Change
+next_changes next s = next_of (entries_for next s)
+
+-- the session after it
+abbrev pub moved : Next → KeptSession → KeptSession
+moved next.Undo s = kept_undone s (next_of s.undos)
+moved next.Redo s = kept_redone s (next_of s.redos)
+
+-- ---- prepared actions
+
+-- the fingerprints of a folder before changes and after each
+abbrev pub prints_along : Folder → List Change → List (List ℕ)
+prints_along folder changes = map fingerprint (folder ∷ folders_after folder changes)
+
+-- the changes that committing applies
+abbrev pub changes_by_kind : Kind → KeptSession → List Change
+changes_by_kind (Changing changes) s = changes
+changes_by_kind (Moving next) s = next_changes next s
+
+-- an action of this kind can be committed: its changes apply and there is room for them, or there is an entry
+abbrev pub CanBe : Kind → KeptSession → Type 0
+CanBe (Changing changes) s = IsTrue (takes_all s.folder changes) × (0 < s.room)
+CanBe (Moving next) s = entries_for next s ≢ []
+
+-- a prepared action can be committed on this session
+pub record Fits (prepared : Prepared) (s : KeptSession) : Type 0 where
+  pub can : CanBe prepared.kind s
+  pub steps : prepared.steps ≡ map step_of (changes_by_kind prepared.kind s)
+
+-- its fingerprints are those along its changes to the session's folder
+abbrev pub HasPrintsOf : KeptSession → Prepared → Type 0
+HasPrintsOf s prepared = prepared.fingerprints.items ≡ prints_along s.folder.files (changes_by_kind prepared.kind s)
+
+-- the session after committing an action of this kind: its changes are applied, and the history has moved on or back
+abbrev pub after_commit : Kind → KeptSession → KeptSession
+after_commit (Changing changes) s = kept_done s changes
+after_commit (Moving next) s = moved next s
+
+-- the settled journal of a session
+abbrev pub kept_journal : KeptSession → Journal
+kept_journal s = settled_journal Two (session_of_kept s)
+
+-- an action is prepared so: it can be committed, it applies the requested changes, and it leads to the session after
+-- the action
+pub record IsReady (action : Action) (old : KeptSession) (prepared : Prepared) (new : KeptSession) : Type 0 where
+  pub fits : Fits prepared new
+  pub prints : HasPrintsOf new prepared
+  pub requested : changes_requested (session_of_kept old) action ≡ Ok (changes_by_kind prepared.kind old)
+  pub leads : session_after (session_of_kept old) action ≡ Ok (session_of_kept (after_commit prepared.kind new))
 
 -- entries before the cursor are undos, the oldest first; the others are redos
 abbrev pub kept_session : Inside → KeptSession
@@ -13,8 +125,33 @@ kept_session a = record {
   room = vec_capacity a.entries - vec_len a.entries;
 }
 
--- the cursor is in the list, all entries can be walked, and what was computed ahead is of this session
+-- the cursor is in the list, all entries can be walked, the checkpoints are of this folder, and the fingerprints are
+-- along the next undo or redo
 pub record IsKeptSession (a : Inside) : Type 0 where
   pub within : a.cursor ≤ length a.entries.items
   pub walks : CanWalk (kept_session a)
-  pub ahead : IsAhead a.ahead (kept_session a)
+  pub checkpoints : AreCheckpointsOf a.folder.files a.checkpoints
+  pub along : IfSome a.along (λ found. found.1.items ≡ prints_along a.folder.files (next_changes found.0 (kept_session a)))
+
+-- bytes that spell the journal, or neither bytes nor journal
+abbrev pub SpellsWhere : Option (Vec ℕ Global) → Option Journal → Type 0
+SpellsWhere None None = Unit {0}
+SpellsWhere None (Some j) = ⊥
+SpellsWhere (Some bytes) None = ⊥
+SpellsWhere (Some bytes) (Some j) = Spells bytes.items j
+
+-- the bytes spell both journals of an action of this kind on the session: the one while its changes are made, and the
+-- one of the session afterwards
+abbrev pub SpellsReady : Kind → KeptSession → Journals → Type 0
+SpellsReady kind s journals =
+    SpellsWhere journals.halfway (halfway_where Two (session_of_kept s) (changes_by_kind kind s))
+    × Spells journals.after.items (kept_journal (after_commit kind s))
+
+-- the halfway journal, if there are changes
+abbrev pub halfway_with : Journal → List (List ℕ) → List Change → Option Journal
+halfway_with j prints [] = None
+halfway_with j prints (change ∷ back) = Some (record j { halfway = Some (record { fingerprints = prints; back = change ∷ back }) })
+
+-- with these fingerprints and this way back, the bytes spell each halfway journal that the front begins
+abbrev pub CompletesHalfway : List ℕ → List (List ℕ) → List Change → Journals → Type 0
+CompletesHalfway front prints back journals = (j : Journal) → Begins front j → SpellsWhere journals.halfway (halfway_with j prints back)

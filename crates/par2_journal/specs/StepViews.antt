@@ -1,7 +1,7 @@
 -- Steps of this crate in the words of the definitions.
 use Rattle.par2_spec.specs.Output as defined
-use Rattle.par2_journal.specs.declared.preparation.Step.{Step}
-use Rattle.par2_journal.specs.declared.preparation.Step.TheVariants.{Write, Replace, Rename, Remove}
+use Rattle.par2_journal.specs.declared.commands.Step.{Step}
+use Rattle.par2_journal.specs.declared.commands.Step.TheVariants.{Write, Replace, Rename, Remove}
 
 -- the step of the definitions
 abbrev pub step_view : Step → defined.Step

@@ -2,22 +2,15 @@
 //! a session. `par2_tool` uses it. It knows no store, and leaves the bytes of journals to `par2_journal_format`.
 #![tactic(auto)]
 
-mod ahead;
 mod commands;
-mod laws;
 mod opening;
-mod preparation;
 mod session;
-mod spelling;
 mod taking_back;
 
-pub use ahead::Next;
-pub use laws::ready_changes_apply;
-pub use opening::{Opened, Opening, opens_as_is};
+pub use commands::{Journals, Prepared, SessionFault, Step, Steps};
+pub use opening::{Next, Opened, Opening, opens_as_is};
 pub use par2_create::CreateArgs;
 pub use par2_repair::{Changes, Fault, Report, State, TargetReport};
 pub use par2_spec::{Action, JournalFault};
-pub use preparation::{Prepared, SessionFault, Step, Steps};
-pub use session::{NothingToRedo, NothingToUndo, Session};
-pub use spelling::Journals;
+pub use session::{NothingToRedo, NothingToUndo, Session, ready_changes_apply};
 pub use taking_back::Halfway;

@@ -1,21 +1,21 @@
 //! Opening a folder with a journal as a session. `open_before` decodes the journal (`open_untested`). A settled one is
 //! opened by `open_settled`: `session_from` tries the entries on the folder's names, and `test_digests` compares the
 //! digests. A halfway one is opened by `open_halfway` (taking_back.rt). For a verify, `opens_as_is` digests no file.
+
 ghost use Rattle.std.specs.Prelude.{◌≡◌, ◌≤◌, ◌⊎◌, if◌then◌else◌, IfOk, IfErr, OnOk, length, map, Ok, None, true, false};
 ghost use Rattle.md5.specs.Md5.{md5};
-ghost use Rattle.par2_spec.specs.Changes.{are_applicable};
-ghost use Rattle.par2_spec.specs.Opening.{Opens, is_valid, leads, opened_by_part};
+ghost use Rattle.par2_spec.specs.Prelude.{are_applicable, Opens, is_valid, leads, opened_by_part};
 ghost use Rattle.par2_spec.specs.declared.JournalFault.TheVariants.{JournalInvalid, FolderChanged, Memory};
-ghost use Rattle.par2_journal_format.specs.Reading.{IsSealed, AreCounted, change_count};
-ghost use Rattle.par2_journal_format.specs.JournalViews.{changes_in, journal_of};
-ghost use Rattle.par2_journal.specs.Opening.{AnswersOpening, AnswersTest, AnswersWhere, IsReportedWhere, OpensAsIs, has_print, session_at};
-ghost use Rattle.par2_journal.specs.Walks.{EntriesWalk};
+ghost use Rattle.par2_journal_format.specs.Journals.{AreCounted, IsSealed, changes_in, journal_of};
+ghost use Rattle.std.specs.List.{sum_by};
+ghost use Rattle.par2_journal.specs.Commands.{AnswersOpening, AnswersTest, AnswersWhere, IsReportedWhere, OpensAsIs, has_print, session_at};
+ghost use Rattle.par2_journal.specs.Sessions.{EntriesWalk};
 
 use crate::taking_back::{Halfway, open_halfway};
-use crate::{Changes, Next, Session};
+use crate::{Changes, Session};
 use md5::{Digest, Md5};
 use par2_files::{Change, Folder, Name};
-use par2_journal_format::{DecodeFault, Journal, decode, decode_untested, is_sealed};
+use par2_journal_format::{Journal, decode, decode_untested, is_sealed};
 use par2_spec::{JournalFault, Result};
 use std::alloc::{AllocError, Global};
 use std::collections::BTreeMap;
@@ -34,9 +34,9 @@ impl<'a> Names<'a> {
     ghost use Rattle.std.specs.Prelude.{◌≡◌, OnOk, IfOk};
     ghost use Rattle.par2_spec.specs.Changes.{are_applicable, effect, effects, is_applicable};
     ghost use Rattle.par2_spec.specs.Folders.{Folder as Files};
-    ghost use Rattle.par2_files.specs.ChangeViews.{change_of};
-    ghost use Rattle.par2_journal_format.specs.JournalViews.{changes_in};
-    ghost use Rattle.par2_journal.specs.Walks.{AreNamesOf, IsSet, IsTried, names_in};
+    ghost use Rattle.par2_files.specs.Folders.{change_of};
+    ghost use Rattle.par2_journal_format.specs.Journals.{changes_in};
+    ghost use Rattle.par2_journal.specs.Sessions.{AreNamesOf, IsSet, IsTried, names_in};
 
     // The names before any change.
     pub(crate) fn of(alloc: Global, folder: &'a Folder) -> Names<'a>
@@ -73,9 +73,8 @@ impl<'a> Names<'a> {
     {
         match change {
             Change::Write(name, _) => !self.has(name),
-            Change::Replace(name, _) => self.has(name),
+            Change::Replace(name, _) | Change::Remove(name) => self.has(name),
             Change::Rename(from, to) => self.has(from) && !self.has(to),
-            Change::Remove(name) => self.has(name),
         }
     }
 
@@ -141,7 +140,7 @@ fn are_valid(alloc: Global, folder: &Folder, entries: &[Changes], cursor: usize)
 // How many changes the entries have in all: none adds more than one file, so room for that many files is enough.
 fn change_count(entries: &[Changes]) -> usize
     requires { AreCounted entries.now }
-    ensures { result ≡ change_count entries.now }
+    ensures { result ≡ sum_by length entries.now }
 {
     let mut count = 0;
     for entry in entries {
@@ -238,11 +237,11 @@ fn test_digests(
         digest.now ≡ md5 body.now →
         IfErr result (λ e. (e ≡ Memory) ⊎ ((e ≡ FolderChanged false) × (same ≡ false))) }
 {
-    let found = session.digests_ahead(next, body)?;
-    if digest != found.bytes.as_slice() {
+    let (print, found) = session.digests_ahead(next, body)?;
+    if digest != found.as_slice() {
         return Err(JournalFault::JournalInvalid);
     }
-    if found.folder.as_slice() != wanted.as_slice() {
+    if print.as_slice() != wanted.as_slice() {
         return Err(JournalFault::FolderChanged { halfway: false });
     }
     Ok(())
@@ -284,8 +283,7 @@ fn open_untested(alloc: Global, folder: Folder, bytes: &[u8], next: Option<Next>
 {
     let untested = match decode_untested(alloc, bytes) {
         Ok(untested) => untested,
-        Err(DecodeFault::JournalInvalid) => return Err((JournalFault::JournalInvalid, folder)),
-        Err(DecodeFault::Memory) => return Err((JournalFault::Memory, folder)),
+        Err(fault) => return Err((fault, folder)),
     };
     let mut journal = untested.journal;
     match journal.halfway.take() {
@@ -338,11 +336,33 @@ pub fn opens_as_is(alloc: Global, folder: &Folder, bytes: &[u8]) -> Result<bool>
 {
     let journal = match decode(alloc, bytes) {
         Ok(journal) => journal,
-        Err(DecodeFault::JournalInvalid) => return Ok(false),
-        Err(DecodeFault::Memory) => return Err(AllocError),
+        Err(JournalFault::Memory) => return Err(AllocError),
+        Err(_) => return Ok(false),
     };
     if journal.halfway.is_some() {
         return Ok(false);
     }
     are_valid(alloc, folder, &journal.entries, journal.cursor)
+}
+
+/// The action that comes next, for which an opening computes fingerprints.
+#[derive(Clone, Copy, PartialEq, Eq)]
+pub enum Next {
+    Undo,
+    Redo,
+}
+
+impl Next {
+    ghost use Rattle.std.specs.Prelude.{◌≡◌};
+    ghost use Rattle.par2_journal.specs.Sessions.{opposite};
+
+    // The one that takes it back.
+    pub(crate) fn opposite(self) -> Next
+        ensures { result ≡ opposite self }
+    {
+        match self {
+            Next::Undo => Next::Redo,
+            Next::Redo => Next::Undo,
+        }
+    }
 }

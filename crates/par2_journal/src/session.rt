@@ -1,8 +1,14 @@
 //! One folder, the changes that lead back, and those that lead forward again. A run opens a session (opening.rt),
-//! prepares an action (commands.rt), spells its `journals`, writes `changes`, and calls `commit`.
-use crate::ahead::Ahead;
-use crate::preparation::Kind;
-use crate::spelling::both;
+//! prepares an action (commands.rt), spells its `journals`, writes `changes`, and calls `commit`. A law about prepared
+//! actions is the contract of a function that does nothing.
+
+ghost use Rattle.std.specs.Prelude.{◌≡◌, IsTrue};
+ghost use Rattle.par2_spec.specs.Prelude.{takes_all, Action, KeptSession, OnlyGrew, CanWalk, session_of_kept, session_with};
+ghost use Rattle.par2_journal.specs.Sessions.{CanBe, IsReady, changes_by_kind, after_commit};
+ghost use Rattle.par2_journal.specs.declared.commands.Kind.{Kind};
+ghost use Rattle.par2_journal.specs.declared.commands.Prepared.{Prepared};
+
+use crate::commands::{Kind, both};
 use crate::{Changes, Journals, Next, Prepared, Steps};
 use par2_files::{
     Change, Checkpoints, Digests, Folder, fingerprint_with_checkpoints, fingerprints,
@@ -24,22 +30,17 @@ pub struct NothingToUndo;
 #[error("nothing to redo")]
 pub struct NothingToRedo;
 
-// The digests that an opening compares with those in a journal: the folder's fingerprint, and the MD5 of the journal's
-// body.
-#[derive(Drop)]
-pub struct SessionDigests {
-    pub folder: [u8; 16],
-    pub bytes: [u8; 16],
-}
-
 /// A session on a folder: the folder, and a list of entries with a cursor. Entries before the cursor are stored as
-/// undos apply them, the others as redos do. `ahead` has what its opening computed for the next action.
+/// undos apply them, the others as redos do.
 #[derive(Drop)]
 pub struct Session {
     folder: Folder,
     entries: Vec<Changes>,
     cursor: usize,
-    ahead: Ahead,
+    // What its opening computed for the next action: MD5 states from which the fingerprints along changes are computed,
+    // and the fingerprints before the changes of the next undo or redo and after each.
+    checkpoints: Checkpoints,
+    along: Option<(Next, Vec<[u8; 16]>)>,
 }
 
 impl Model for Session {
@@ -60,19 +61,19 @@ impl Model for Session {
 impl Session {
     ghost use Rattle.std.specs.Prelude.{◌≡◌, ◌↔◌, ◌<◌, ◌≤◌, ◌+◌, ◌≢◌, [], map, length, IsErr, IfOk, IfSome, OnOk, OnErr, IsTrue, None};
     ghost use Rattle.md5.specs.Md5.{md5};
-    ghost use Rattle.par2_md5_lanes.specs.Buffers.{buffers_of};
+    ghost use Rattle.par2_md5_lanes.specs.Messages.{buffers_of};
     ghost use Rattle.par2_spec.specs.Changes.{takes_all};
     ghost use Rattle.par2_spec.specs.Folders.{fingerprint};
     ghost use Rattle.par2_spec.specs.Sessions.{CanWalk, OnlyGrew, session_of_kept, kept_done, kept_undone, kept_redone};
     ghost use Rattle.par2_spec.specs.Journals.{Spells};
     ghost use Rattle.par2_files.specs.Checkpoints.{AreCheckpointsOf};
-    ghost use Rattle.par2_files.specs.ChangeViews.{change_of};
-    ghost use Rattle.par2_journal_format.specs.JournalViews.{journal_from};
-    ghost use Rattle.par2_journal.specs.Opening.{session_at};
-    ghost use Rattle.par2_journal.specs.Ready.{CanBe, Fits, HasPrintsOf, after_commit, changes_by_kind, entries_for, kept_journal, moved, next_changes, next_of, prints_along};
-    ghost use Rattle.par2_journal.specs.Spelling.{SpellsReady};
-    ghost use Rattle.par2_journal.specs.Walks.{EntriesWalk};
-    ghost use Rattle.par2_journal.specs.declared.preparation.Kind.TheVariants.{Changing, Moving};
+    ghost use Rattle.par2_files.specs.Folders.{change_of};
+    ghost use Rattle.par2_journal_format.specs.Journals.{journal_from};
+    ghost use Rattle.par2_journal.specs.Commands.{session_at};
+    ghost use Rattle.par2_journal.specs.Sessions.{CanBe, Fits, HasPrintsOf, after_commit, changes_by_kind, entries_for, kept_journal, moved, next_changes, next_of, prints_along};
+    ghost use Rattle.par2_journal.specs.Sessions.{SpellsReady};
+    ghost use Rattle.par2_journal.specs.Sessions.{EntriesWalk};
+    ghost use Rattle.par2_journal.specs.declared.commands.Kind.TheVariants.{Changing, Moving};
 
     /// A session on this folder, without a history: there is no journal, or its history is dropped or not needed.
     pub fn new(alloc: Global, folder: Folder) -> Session
@@ -92,12 +93,13 @@ impl Session {
         ensures folder { result.folder ≡ folder }
         ensures session { session_of_kept result ≡ session_at folder.files cursor entries.items }
     {
-        let ahead = Ahead::none(*entries.allocator());
+        let checkpoints = Checkpoints::none(*entries.allocator());
         Session {
             folder,
             entries,
             cursor,
-            ahead,
+            checkpoints,
+            along: None,
         }
     }
 
@@ -140,7 +142,8 @@ impl Session {
         requires { entries_for next self.old ≢ [] }
         ensures { self.new ≡ moved next self.old }
     {
-        self.ahead = Ahead::none(self.allocator());
+        self.checkpoints = Checkpoints::none(self.allocator());
+        self.along = None;
         match next {
             Next::Undo => {
                 self.cursor -= 1;
@@ -221,7 +224,8 @@ impl Session {
         requires room { 0 < self.old.room }
         ensures { self.new ≡ kept_done self.old changes }
     {
-        self.ahead = Ahead::none(self.allocator());
+        self.checkpoints = Checkpoints::none(self.allocator());
+        self.along = None;
         changes.apply_and_invert(&mut self.folder);
         self.entries.truncate(self.cursor);
         // For the prover: `insert` keeps the capacity, and `push` only says that it doesn't shrink.
@@ -258,7 +262,7 @@ impl Session {
     pub(crate) fn checkpoints(&self) -> &Checkpoints
         ensures { AreCheckpointsOf self.now.folder.files result.now }
     {
-        &self.ahead.checkpoints
+        &self.checkpoints
     }
 
     // Digests the folder and `bytes`, the journal's body, side by side for an opening. Before an undo or redo (`next`),
@@ -268,21 +272,21 @@ impl Session {
         &mut self,
         next: Option<Next>,
         bytes: &[u8],
-    ) -> Result<SessionDigests>
+    ) -> Result<([u8; 16], [u8; 16])>
         ensures unchanged { self.new ≡ self.old }
-        ensures folder { IfOk result (λ x. x.folder ≡ fingerprint self.old.folder.files) }
-        ensures bytes { IfOk result (λ x. x.bytes ≡ md5 bytes.now) }
+        ensures folder { IfOk result (λ x. x.0 ≡ fingerprint self.old.folder.files) }
+        ensures bytes { IfOk result (λ x. x.1 ≡ md5 bytes.now) }
     {
         let Some(next) = next else {
             let found = fingerprint_with_checkpoints(self.allocator(), &self.folder, bytes)?;
             let (folder, bytes) = (found.fingerprint, found.digest);
-            self.ahead.checkpoints = found.checkpoints;
-            return Ok(SessionDigests { folder, bytes });
+            self.checkpoints = found.checkpoints;
+            return Ok((folder, bytes));
         };
         let found = self.digests(self.next_changes(next), None, &[bytes])?;
         let (folder, bytes) = (found.along[0], found.beside[0]);
-        self.ahead.along = Some((next, found.along));
-        Ok(SessionDigests { folder, bytes })
+        self.along = Some((next, found.along));
+        Ok((folder, bytes))
     }
 
     // The fingerprints before changes to the folder and after each, and the MD5s of buffers, all computed side by side:
@@ -293,14 +297,13 @@ impl Session {
         from: Option<&Checkpoints>,
         beside: &[&[u8]],
     ) -> Result<Digests>
-        requires checkpoints { IfSome from
-            (λ from. AreCheckpointsOf self.now.folder.files from.now) }
+        requires checkpoints { IfSome from (λ f. AreCheckpointsOf self.now.folder.files f.now) }
         requires applies { IsTrue (takes_all self.now.folder (map change_of changes.now)) }
         ensures along { IfOk result (λ found. found.along.items
             ≡ prints_along self.now.folder.files (map change_of changes.now)) }
-        ensures beside { IfOk result (λ found. found.beside.items ≡ map md5 (buffers_of beside.now)) }
+        ensures beside { IfOk result (λ x. x.beside.items ≡ map md5 (buffers_of beside.now)) }
     {
-        let from = from.unwrap_or(&self.ahead.checkpoints);
+        let from = from.unwrap_or(&self.checkpoints);
         fingerprints(self.allocator(), &self.folder, changes, from, beside)
     }
 
@@ -311,7 +314,7 @@ impl Session {
         ensures along { IfOk result (λ along. along.items
             ≡ prints_along self.old.folder.files (next_changes next self.old)) }
     {
-        match self.ahead.along.take() {
+        match self.along.take() {
             Some((of, along)) if of == next => Ok(along),
             _ => Ok(self.digests(self.next_changes(next), None, &[])?.along),
         }
@@ -412,3 +415,15 @@ impl Session {
         steps
     }
 }
+
+/// `applies`: what can be committed (`CanBe`) applies to the folder if undos and redos can be walked (`CanWalk`).
+/// `commits`: committing it on the session for which it was prepared, or on one that only got more room (`OnlyGrew`),
+/// leaves the session that its action leads to.
+pub fn ready_changes_apply()
+    ensures applies { (kind : Kind) (s : KeptSession) → CanWalk s → CanBe kind s
+        → IsTrue (takes_all s.folder (changes_by_kind kind s)) }
+    ensures commits { (action : Action) (old new : KeptSession) (prepared : Prepared)
+        → OnlyGrew old new → IsReady action old prepared new
+        → session_of_kept (after_commit prepared.kind new)
+        ≡ session_with (session_of_kept new) action (changes_by_kind prepared.kind new) }
+{}

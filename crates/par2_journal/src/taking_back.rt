@@ -3,14 +3,10 @@
 //! `Halfway::changes` in its store, puts the `settled` journal, and goes on with the session (`finish`).
 ghost use Rattle.std.specs.Prelude.{◌≡◌, ◌≤◌, ◌<◌, ◌-◌, ◌&&◌, ⊤, drop, IfSome, IfOk, IfErr, OnOk, OnErr, IsTrue, length, position, Ok, None, Some};
 ghost use Rattle.std.specs.Str.{bytes_eq};
-ghost use Rattle.par2_spec.specs.Changes.{effects};
-ghost use Rattle.par2_spec.specs.Journals.{Spells};
-ghost use Rattle.par2_spec.specs.Opening.{is_valid, opened_by_part};
-ghost use Rattle.par2_journal_format.specs.Reading.{AreCounted};
-ghost use Rattle.par2_journal_format.specs.JournalViews.{changes_in, halfway_of, journal_of};
-ghost use Rattle.par2_journal.specs.Opening.{AnswersTest, AnswersWhere, FailsTest, HasNoPlace, LeadBack, go_through, place_among, session_at, session_before, way_left};
-ghost use Rattle.par2_journal.specs.Ready.{kept_journal};
-ghost use Rattle.par2_journal.specs.Walks.{WentForth};
+ghost use Rattle.par2_spec.specs.Prelude.{effects, Spells, is_valid, opened_by_part};
+ghost use Rattle.par2_journal_format.specs.Journals.{AreCounted, changes_in, halfway_of, journal_of};
+ghost use Rattle.par2_journal.specs.Commands.{AnswersTest, AnswersWhere, FailsTest, HasNoPlace, LeadBack, go_through, place_among, session_at, session_before, way_left};
+ghost use Rattle.par2_journal.specs.Sessions.{kept_journal, WentForth};
 
 use crate::opening::{Names, Opened, Opening, session_from};
 use crate::{Changes, Session};

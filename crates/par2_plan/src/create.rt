@@ -1,9 +1,6 @@
 //! A create without checkpoints, for callers that have no session.
 ghost use Rattle.std.specs.Prelude.{IsTrue, IfOk};
-ghost use Rattle.par2_spec.specs.Changes.{are_applicable};
-ghost use Rattle.par2_spec.specs.Commands.{Create};
-ghost use Rattle.par2_spec.specs.Planned.{FailsAs, GivesChanges, LeadsAs, RefusesEarly, SucceedsAs};
-ghost use Rattle.par2_spec.specs.Views.{create_args_of};
+ghost use Rattle.par2_spec.specs.Prelude.{are_applicable, Create, FailsAs, GivesChanges, LeadsAs, RefusesEarly, SucceedsAs, create_args_of};
 
 use par2_files::{Changes, Checkpoints, Folder};
 use par2_spec::{CreateArgs, Fault};

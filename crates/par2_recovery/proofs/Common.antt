@@ -6,10 +6,8 @@ pub use Rattle.std.proofs.lemmas.List.{ext_get_or, length-replicate, take_all, w
 pub use Rattle.std.proofs.lemmas.List.FromFn.{get_or-map-range_with_len, get_or-range_with_len, length-map-range_with_len, length-range_with_len}
 pub use Rattle.std.specs.List.{range_with_len}
 pub use Rattle.std.specs.Prelude.{◌/◌}
-pub use Rattle.par2_create.specs.Records.{AreRecords}
-pub use Rattle.par2_solve.specs.BufferContents.{AreBlank, buffers_of}
-pub use Rattle.par2_solve.specs.WrittenSlices.{AreWritten, AreZeros, output_at}
-pub use Rattle.par2_spec.specs.Slices.{padded}
-pub use Rattle.par2_spec.specs.Sums.{list_at, lists_of}
-pub use Rattle.par2_transform.specs.Adding.{AreWholeBuffers, HaveWords, place_at}
+pub use Rattle.par2_solve.specs.BufferContents.{AreBlank, byte_lists}
+pub use Rattle.par2_solve.specs.Rebuilding.{AreWritten, AreZeros, output_at}
+pub use Rattle.par2_spec.specs.Prelude.{padded, list_at, lists_of}
+pub use Rattle.par2_transform.specs.Rows.{AreWholeBuffers, HaveWords, place_at}
 pub use Rattle.par2_transform.specs.declared.outputs.Place.{Place}

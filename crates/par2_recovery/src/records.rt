@@ -4,8 +4,7 @@ ghost use Rattle.std.specs.Prelude.{◌≡◌, ◌≤◌, map, Err, IfOk, IsOk};
 ghost use Rattle.std.specs.List.{IsDistinct};
 ghost use Rattle.std.specs.List.Sorted.{IsStrictlyIncreasing};
 ghost use Rattle.std.specs.Str.{bytes_eq};
-ghost use Rattle.par2_spec.specs.Volumes.{id_of, in_id_order};
-ghost use Rattle.par2_spec.specs.Commands.{files_of};
+ghost use Rattle.par2_spec.specs.Prelude.{id_of, in_id_order, files_of};
 ghost use Rattle.par2_packets.specs.PacketViews.{record_id_number};
 ghost use Rattle.par2_create.specs.Records.{AreRecords, names_of};
 

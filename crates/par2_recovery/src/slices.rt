@@ -2,11 +2,9 @@
 
 ghost use Rattle.std.specs.Prelude.{◌≡◌, ◌+◌, ◌%◌, ◌^◌, ◌≤◌, length, map, IfOk};
 ghost use Rattle.std.specs.List.{range_with_len};
-ghost use Rattle.par2_spec.specs.Slices.{padded};
-ghost use Rattle.par2_spec.specs.Recovery.{recovery};
-ghost use Rattle.par2_spec.specs.Sums.{lists_of};
+ghost use Rattle.par2_spec.specs.Prelude.{padded, recovery, lists_of};
 ghost use Rattle.par2_create.specs.Records.{slices_of_records};
-ghost use Rattle.par2_solve.specs.BufferContents.{buffers_of};
+ghost use Rattle.par2_transform.specs.Chirps.{byte_lists};
 
 use crate::SetRecord;
 use par2_create::input_slices;
@@ -31,7 +29,7 @@ pub fn recovery_slices_over(
     requires even { size % 2 ≡ 0 }
     requires exponents { first + count ≤ 2 ^ 32 }
     ensures { IfOk result (λ buffers. lists_of buffers.items ≡ map (recovery size
-        (map (padded size) (buffers_of slices.now))) (range_with_len first count)) }
+        (map (padded size) (byte_lists slices.now))) (range_with_len first count)) }
 {
     let exponents = numbers_from(alloc, first, count)?;
     let places = whole_buffers(alloc, count as usize)?;

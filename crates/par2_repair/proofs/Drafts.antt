@@ -1,9 +1,8 @@
 -- A draft of a repair, by the targets that it writes.
-use Rattle.par2_repair.proofs.Common.{◌≡◌, ◌∙◌, ℕ, List, [], ◌∷◌, ◌++◌, length, map, drop, get_or, refl, sym, ap, ap₂, subst, Bool, true, false, not, Ok, append-nil, Option, filter, filter_map, option_map, None, Some, AllByRecursion, cons_option, list_all, and_from, and_parts, false_from_ne_true, filter_map-append, bytes_eq-Decides, Change, Write, Rename, Remove, are_applicable, effects, Repair, fault_where, Folder, is_among, changes_of, now_at, repair_changes, repair_removals, set_in, refusal, aside, put_aside, rebuilt_targets, par_files, AreFew, candidates, matches, matching, ParSet, Target, RepairFailed, set_in_reads, same_ok, md5s_of, HasItsMd5s, IsDraft, IsDraftBy, bytes_eq, IsAsDescribed, repair_by, bytes_written, buffers_written, IsTrue}
+use Rattle.par2_repair.proofs.Common.{◌≡◌, ◌∙◌, ℕ, List, [], ◌∷◌, ◌++◌, length, map, drop, get_or, refl, sym, ap, ap₂, subst, Bool, true, false, not, Ok, append-nil, Option, filter, filter_map, option_map, None, Some, AllByRecursion, cons_option, repair_refusal, list_all, and_from, and_parts, false_from_ne_true, filter_map-append, bytes_eq-Decides, Change, Write, Rename, Remove, are_applicable, effects, Repair, fault_where, Folder, is_among, changes_of, now_at, repair_changes, repair_removals, set_in, refusal, aside, put_aside, rebuilt_targets, par_files, AreFew, candidates, matches, matching, ParSet, Target, RepairFailed, set_in_reads, same_ok, HasItsMd5s, IsDraft, bytes_eq, IsAsDescribed, repair_by, bytes_written, buffers_written, IsTrue}
 use Rattle.md5.specs.Md5.{md5}
-use Rattle.par2_repair.specs.declared.draft.Draft.{Draft}
-use Rattle.par2_repair.proofs.PlanParts.{repair_refused, repair_leads}
-use Rattle.par2_repair.proofs.PlanParts as parts
+use Rattle.par2_repair.specs.declared.repair.Draft.{Draft}
+use Rattle.par2_repair.proofs.RepairParts.{repair_by_set, repair_refused, repair_leads}
 
 -- ---- what a repair writes
 
@@ -56,7 +55,7 @@ has_digest c = bytes_eq (md5 c.1) c.0.md5
 
 -- the bytes have the MD5s that the targets describe
 abbrev HaveMd5s : List (Target × List ℕ) → Type 0
-HaveMd5s cs = map md5 (map (λ c. c.1) cs) ≡ md5s_of cs
+HaveMd5s cs = map md5 (map (λ c. c.1) cs) ≡ map (λ c. c.0.md5) cs
 
 all_right : (cs : List (Target × List ℕ)) → HaveMd5s cs → list_all has_digest cs ≡ true
 all_right [] h = refl
@@ -77,6 +76,14 @@ described (c ∷ cs) lengths h =
 
 -- ---- a draft of the set that is read
 
+-- the draft of a repair of a set, by the names that are searched: its only cause of refusal left is a wrong MD5
+pub record IsDraftBy (purge : Bool) (folder : Folder) (set : ParSet) (searched : List (List ℕ)) (draft : Draft) : Type 0 where
+  pub changes : draft.changes ≡ repair_by purge folder set searched
+  pub md5s : draft.md5s.items ≡ map (λ c. c.0.md5) (rebuilt_targets folder set searched)
+  pub lengths : AllByRecursion (λ c. length c.1 ≡ c.0.length) (rebuilt_targets folder set searched)
+  pub cause : repair_refusal folder set searched ≡ fault_where (not (list_all has_digest (rebuilt_targets folder set searched))) RepairFailed
+  pub few : AreFew folder set
+
 module _ (folder : Folder) (base : List ℕ) (extras : List (List ℕ)) (purge : Bool) (set : ParSet) (reads : set_in folder base extras ≡ Ok set) (draft : Draft) (is : IsDraftBy purge folder set (candidates folder set extras) draft) where
   abbrev targets : List (Target × List ℕ)
   targets = rebuilt_targets folder set (candidates folder set extras)
@@ -94,7 +101,7 @@ module _ (folder : Folder) (base : List ℕ) (extras : List (List ℕ)) (purge :
   refused b e = repair_refused folder base extras purge set reads ∙ is.cause ∙ ap (λ b. fault_where (not b) RepairFailed) e
 
   planned : draft.changes ≡ changes_of folder (Repair base extras purge)
-  planned = is.changes ∙ sym (parts.repair_changes folder base extras purge set reads)
+  planned = is.changes ∙ sym (repair_by_set folder base extras purge set reads)
 
   pub is_draft : IsDraft folder base extras purge draft
   is_draft = record {

@@ -1,10 +1,19 @@
 -- The parts of a repair are those of the definitions.
-use Rattle.par2_repair.proofs.Common.{◌≡◌, ◌⊎◌, inl, inr, subst, ℕ, List, [], ◌∷◌, ◌++◌, length, map, refl, sym, ap, ap₂, ◌∙◌, Bool, true, false, not, cond, ◌&&◌, ◌||◌, ◌+◌, suc, arith, Ok, ◌==◌, Option, is_none, filter, filter_map, flat_map, None, Some, AllByRecursion, enumerate_from, list_any, bytes_eq, ne_eqb, or_right, and_parts, not-true, false_from_ne_true, is_incomplete, matching, matches, lost, survivors, candidates, incomplete_names, known, is_par_name, is_among, map-map, Change, Rename, Remove, Pair, first_fault, fault_where, Folder, bytes_of, has, now_at, repair_changes, repair_removals, is_repairable, rank, aside, put_aside, names_without_match, rebuilt, par_files, files_of_slices, is_par_file, rebuilt_targets, ParSet, Target, set_of, found, Fault, NotRepairable, all-append, filter-map, all-each, all-filter, lost_of, long_aside, undetermined_fault, targets_among, wrong_digest, AreRestored, IsWholeWhereMatched, matches_taken, writes, removed, renamed, place_in, BTreeMap, BTreeSet, contains, slice_cmp, nat_cmp, option_map, known_by, itself, among-filter, among_some, clash, repair_refusal}
+use Rattle.par2_repair.proofs.Common.{◌≡◌, ◌⊎◌, inl, inr, subst, ℕ, List, [], ◌∷◌, ◌++◌, length, map, refl, sym, ap, ap₂, ◌∙◌, Bool, true, false, not, cond, ◌&&◌, ◌||◌, ◌+◌, arith, Ok, ◌==◌, Option, is_none, filter, filter_map, flat_map, None, Some, AllByRecursion, enumerate_from, list_any, bytes_eq, or_right, and_parts, not-true, false_from_ne_true, is_incomplete, matching, matches, lost, survivors, candidates, incomplete_names, known, is_par_name, is_among, map-map, Change, Rename, Remove, Pair, first_fault, fault_where, Folder, bytes_of, has, now_at, repair_changes, repair_removals, is_repairable, rank, aside, put_aside, names_without_match, rebuilt, par_files, files_of_slices, is_par_file, rebuilt_targets, ParSet, Target, set_of, found, Fault, NotRepairable, all-append, filter-map, all-each, all-filter, lost_of, long_aside, undetermined_fault, list_all, RepairFailed, matches_taken, writes, removed, renamed, place_in, BTreeMap, BTreeSet, contains, slice_cmp, nat_cmp, option_map, itself, among-filter, among_some, clash, repair_refusal, Err, Verify, Repair, Purge, then_fault, purge_changes, LeadsToAfter, changes_of, set_in, purge_refusal, by_set, early_refusal, refusal, AreFew, command_leads, set_in_reads, same_ok, repair_by, append-nil, bytes_eq-Decides, filter-append, filter_agree, names_there, HasAsides, distinct, same_either_way, AreDistinct, distinct-filter, position_from, NoSuchFile, absent_file, missing, position_from-zero, at_none, never_found, ◌<◌, all_below_are, found_one, length-map, zip, slice_get, IsDistinct, range_with_len, incomplete, intact_names, distinct_from_std, std_from_distinct, listed_at, first_intact, without_number, matched_from, matched_numbers, NumbersAreNames, option_and_then, slice_get-get_or}
+use Rattle.md5.specs.Md5.{md5}
+use Rattle.std.proofs.Math.Bool.{and-false}
 use Rattle.par2_sets.specs.SetReading.{HoldsOwned}
-use Rattle.par2_spec.specs.Packets.{accepted}
-use Rattle.par2_spec.specs.Folders.{names as names_in}
-use Rattle.par2_spec.proofs.RankLaws.{repairable-iff}
-use Rattle.par2_spec.proofs.SearchLaws.{matches_of_incomplete}
+use Rattle.par2_spec.specs.Prelude.{accepted, names as names_in, all_below}
+use Rattle.par2_spec.proofs.SearchLaws.{repairable-iff, matches_of_incomplete, all_weaker}
+use Rattle.std.proofs.lemmas.List.Elements.{filter_passes, recursion_from_All}
+
+-- the refusal if a file has another MD5 than its target describes
+abbrev pub wrong_digest : List (Target × List ℕ) → Option Fault
+wrong_digest targets = fault_where (not (list_all (λ c. bytes_eq (md5 c.1) c.0.md5) targets)) RepairFailed
+
+-- if each incomplete target has a match, nothing is lost
+abbrev pub IsWholeWhereMatched : Folder → ParSet → List (List ℕ) → Type 0
+IsWholeWhereMatched folder set searched = names_without_match (matches folder set searched) ≡ [] → lost (known folder set searched) ≡ []
 
 abbrev Pairs : Type 0
 Pairs = List (Target × Option (List ℕ))
@@ -18,23 +27,13 @@ place_by aside names name = cond (is_among names name) (aside name) name
 own_places : (aside : List ℕ → List ℕ) (all : List (List ℕ)) (change : List ℕ → List ℕ → Change) (names : List (List ℕ)) → AllByRecursion (λ n. is_among all n ≡ true) names
     → map (λ n. change n (place_by aside all n)) names ≡ map (λ n. change n (aside n)) names
 own_places aside all change [] h = refl
-own_places aside all change (name ∷ names) h =
-    ap₂ (λ (place : List ℕ) (changes : List Change). change name place ∷ changes) (ap (λ b. cond b (aside name) name) h.0) (own_places aside all change names h.1)
+own_places aside all change (name ∷ names) h = let here = h.0 in grind (arith, here, own_places aside all change names h.1)
 
 -- the others keep their names
 old_places : (aside : List ℕ → List ℕ) (all : List (List ℕ)) (change : List ℕ → Change) (names : List (List ℕ)) → AllByRecursion (λ n. is_among all n ≡ false) names
     → map (λ n. change (place_by aside all n)) names ≡ map change names
 old_places aside all change [] h = refl
-old_places aside all change (name ∷ names) h =
-    ap₂ (λ (place : List ℕ) (changes : List Change). change place ∷ changes) (ap (λ b. cond b (aside name) name) h.0) (old_places aside all change names h.1)
-
-all_passing : (P : List ℕ → Type 0) (test : List ℕ → Bool) → ((n : List ℕ) → test n ≡ true → P n) → (names : List (List ℕ)) → AllByRecursion P (filter test names)
-all_passing P test h [] = tt
-all_passing P test h (name ∷ names) = step (test name) refl (all_passing P test h names)
-  where
-    step : (b : Bool) → test name ≡ b → AllByRecursion P (filter test names) → AllByRecursion P (cond b (name ∷ filter test names) (filter test names))
-    step true e all = (h name e, all)
-    step false e all = all
+old_places aside all change (name ∷ names) h = let here = h.0 in grind (arith, here, old_places aside all change names h.1)
 
 all_own : (names more : List (List ℕ)) → ((q : List ℕ) → is_among names q ≡ true → is_among more q ≡ true) → AllByRecursion (λ n. is_among more n ≡ true) names
 all_own [] more h = tt
@@ -45,8 +44,7 @@ all_own (name ∷ names) more h =
 
 quiet : (n : ℕ) (xs : List (Bool × Option (List ℕ))) → AllByRecursion (λ x. x.0 ≡ false) xs → filter (λ (z : ℕ × (Bool × Option (List ℕ))). z.1.0 && is_none z.1.1) (enumerate_from n xs) ≡ []
 quiet n [] h = refl
-quiet n ((true, slice) ∷ xs) h = absurd (let no : ⊥ = cc in no)
-quiet n ((false, slice) ∷ xs) h = quiet (n + 1) xs h.1
+quiet n ((b, slice) ∷ xs) h = let here = h.0 in grind (arith, here, quiet (n + 1) xs h.1)
 
 all_quiet : (f : Pair → Option (List ℕ)) (ts : List Target) → AllByRecursion (λ (x : Bool × Option (List ℕ)). x.0 ≡ false) (flat_map (λ t. map (λ pair. (is_among [] t.name, f pair)) t.pairs) ts)
 all_quiet f [] = tt
@@ -69,24 +67,9 @@ none_to_repair survivors = (repairable-iff [] survivors).1 (λ v h k. no_element
     no_element [] h = tt
     no_element (x ∷ v) h = absurd (let no : ⊥ = cc in no)
 
-determined_without : (set : ParSet) (slices : List (Option (List ℕ))) → lost slices ≡ [] → undetermined_fault set slices ≡ None
-determined_without set slices h =
-    ap (λ (missing : List ℕ). fault_where (not (is_repairable missing (survivors set))) (NotRepairable (length missing) (rank missing (survivors set)))) h
-    ∙ ap (λ b. fault_where (not b) (NotRepairable 0 (rank [] (survivors set)))) (none_to_repair (survivors set))
-
 none_among : (files : List (Target × List ℕ)) → filter (λ c. is_among [] c.0.name) files ≡ []
 none_among [] = refl
 none_among (file ∷ files) = none_among files
-
--- without names, no file is restored
-pub none_restored : (set : ParSet) (known : List (Option (List ℕ))) (names : List (List ℕ)) (restored : List (Target × List ℕ)) → names ≡ [] → restored ≡ [] → AreRestored set known names restored
-none_restored set known names restored none is =
-    let targets : targets_among set (rebuilt set known) names ≡ [] = ap (targets_among set (rebuilt set known)) none ∙ none_among (files_of_slices set (rebuilt set known)) in
-    record {
-      targets = is ∙ sym targets;
-      lengths = subst (AllByRecursion (λ c. length c.1 ≡ c.0.length)) (sym targets) tt;
-      determined = inl none;
-    }
 
 -- ---- a folder, a set and the names that are searched
 
@@ -101,38 +84,41 @@ module _ (folder : Folder) (set : ParSet) (searched : List (List ℕ)) where
 
   -- ---- refusals
 
-  by_parts : repair_refusal folder set searched ≡ first_fault (undetermined_fault set (known_by folder set searched) ∷ long_aside folder set (put_aside folder set) ∷ wrong_digest (rebuilt_targets folder set searched) ∷ [])
-  unfolding repair_refusal known
+  by_parts : repair_refusal folder set searched ≡ first_fault (undetermined_fault folder set searched ∷ long_aside folder set (put_aside folder set) ∷ wrong_digest (rebuilt_targets folder set searched) ∷ [])
+  unfolding repair_refusal
   by_parts = refl
 
-  pub not_repairable : (fault : Fault) → undetermined_fault set (known_by folder set searched) ≡ Some fault → repair_refusal folder set searched ≡ Some fault
-  not_repairable fault h = by_parts ∙ ap (λ f. first_fault (f ∷ long_aside folder set (put_aside folder set) ∷ wrong_digest (rebuilt_targets folder set searched) ∷ [])) h
+  pub not_repairable : (fault : Fault) → undetermined_fault folder set searched ≡ Some fault → repair_refusal folder set searched ≡ Some fault
+  not_repairable fault h = grind (arith, by_parts)
 
-  module _ (reported : undetermined_fault set (known_by folder set searched) ≡ None) where
+  module _ (reported : undetermined_fault folder set searched ≡ None) where
     pub too_long : (fault : Fault) → long_aside folder set (put_aside folder set) ≡ Some fault → repair_refusal folder set searched ≡ Some fault
-    too_long fault h =
-        by_parts ∙ ap₂ (λ f g. first_fault (f ∷ g ∷ wrong_digest (rebuilt_targets folder set searched) ∷ [])) reported h
+    too_long fault h = grind (arith, by_parts)
 
     module _ (short : long_aside folder set (put_aside folder set) ≡ None) where
       pub by_digests : repair_refusal folder set searched ≡ wrong_digest (rebuilt_targets folder set searched)
-      by_digests =
-          by_parts ∙ ap₂ (λ f g. first_fault (f ∷ g ∷ wrong_digest (rebuilt_targets folder set searched) ∷ [])) reported short ∙ alone (wrong_digest (rebuilt_targets folder set searched))
-        where
-          alone : (f : Option Fault) → first_fault (f ∷ []) ≡ f
-          alone None = refl
-          alone (Some fault) = refl
+      by_digests = grind (arith, by_parts)
 
   -- ---- slices and files
 
-  pub reported_by : (names : List (List ℕ)) → names ≡ names_without_match ms → IsWholeWhereMatched folder set searched → (names ≡ []) ⊎ (undetermined_fault set (known_by folder set searched) ≡ None)
-      → undetermined_fault set (known_by folder set searched) ≡ None
-  unfolding known
-  reported_by names e whole (inl none) = determined_without set (known_by folder set searched) (whole (sym e ∙ none))
-  reported_by names e whole (inr reported) = reported
+  -- the lost slices can be rebuilt, if each target has a match or its files are restored
+  pub determined : IsWholeWhereMatched folder set searched → (names_without_match ms ≡ []) ⊎ (undetermined_fault folder set searched ≡ None) → undetermined_fault folder set searched ≡ None
+  determined whole (inl none) =
+      grind (arith, whole none, none_to_repair (survivors set))
+  determined whole (inr reported) = reported
 
-  pub targets_are : (names : List (List ℕ)) → names ≡ names_without_match ms → targets_among set (rebuilt set (known_by folder set searched)) names ≡ rebuilt_targets folder set searched
-  unfolding rebuilt_targets known
-  targets_are names e = ap (targets_among set (rebuilt set (known_by folder set searched))) e
+  -- without names, no file is restored
+  pub none_rebuilt : names_without_match ms ≡ [] → rebuilt_targets folder set searched ≡ []
+  unfolding rebuilt_targets
+  none_rebuilt none =
+      ap (λ names. filter (λ c. is_among names c.0.name) (files_of_slices set (rebuilt set (known folder set searched)))) none ∙ none_among (files_of_slices set (rebuilt set (known folder set searched)))
+
+  -- files that are cut out of all slices, if their names are those of targets without a match
+  pub targets_are : (test : List ℕ → Bool) (slices : List (List ℕ)) → ((name : List ℕ) → test name ≡ is_among (names_without_match ms) name) → slices ≡ rebuilt set (known folder set searched)
+      → filter (λ c. test c.0.name) (files_of_slices set slices) ≡ rebuilt_targets folder set searched
+  unfolding rebuilt_targets
+  targets_are test slices is are =
+      ap (λ all. filter (λ c. test c.0.name) (files_of_slices set all)) are ∙ filter_agree (λ (c : Target × List ℕ). test c.0.name) (λ c. is_among (names_without_match ms) c.0.name) (λ c. is c.0.name) _
 
   -- ---- changes
 
@@ -178,20 +164,178 @@ module _ (folder : Folder) (set : ParSet) (searched : List (List ℕ)) where
         (all-filter (λ n. is_among (put_aside folder set) n ≡ true) free (put_aside folder set) (all_own (put_aside folder set) (put_aside folder set) (λ q h. h))))
         (all files ∙ ap (removals (now_at folder set) (is_among (matching folder set searched))) of_files
         ∙ old_places (aside folder set) (put_aside folder set) Remove (filter free (par_files folder set))
-        (all-filter (λ n. is_among (put_aside folder set) n ≡ false) free (par_files folder set) (all_passing (λ n. is_among (put_aside folder set) n ≡ false) (is_par_file folder set) par_file_stays (names_in folder))))
+        (all-filter (λ n. is_among (put_aside folder set) n ≡ false) free (par_files folder set) (all_weaker _ _ par_file_stays (par_files folder set) (recursion_from_All _ _ (filter_passes (is_par_file folder set) (names_in folder))))))
 
-  pub put_aside_in : (incomplete : Pairs) → incomplete ≡ ms → map (λ m. m.0.name) (filter (λ m. has folder m.0.name) incomplete) ≡ put_aside folder set
+  pub put_aside_in : (incomplete : Pairs) → incomplete ≡ ms → names_there folder incomplete ≡ put_aside folder set
   put_aside_in incomplete e =
-      ap (λ (ms : Pairs). map (λ m. m.0.name) (filter (λ m. has folder m.0.name) ms)) e
+      ap (names_there folder) e
       ∙ sym (filter-map (has folder) (λ (m : Target × Option (List ℕ)). m.0.name) ms) ∙ ap (filter (has folder)) (sym names_in_pairs)
+
+  -- each file that is put aside has its aside in the map
+  pub asides_are : (names others : List (List ℕ)) (asides : BTreeMap (List ℕ) (List ℕ)) → HasAsides names others asides → names ≡ put_aside folder set → others ≡ map (aside folder set) names
+      → (name : List ℕ) → place_in asides name ≡ now_at folder set name
+  asides_are names others asides has are own name = has (aside folder set) own name ∙ ap (λ (ns : List (List ℕ)). cond (is_among ns name) (aside folder set name) name) are
 
 -- ---- purges
 
 -- some targets are incomplete if and only if one is
 pub any_incomplete : (test : Target → Bool) (ts : List Target) → not (length (filter test ts) == 0) ≡ list_any test ts
 any_incomplete test [] = refl
-any_incomplete test (t ∷ ts) = step (test t) (any_incomplete test ts)
+any_incomplete test (t ∷ ts) = grind (arith, any_incomplete test ts)
+
+-- A repair and a purge by the set that they read.
+
+-- ---- early refusals
+
+pub repair_as_verify : (folder : Folder) (base : List ℕ) (extras : List (List ℕ)) (purge : Bool) → early_refusal folder (Verify base extras) ≡ early_refusal folder (Repair base extras purge)
+unfolding early_refusal
+repair_as_verify folder base extras purge = refl
+
+pub purge_as_verify : (folder : Folder) (base : List ℕ) → early_refusal folder (Verify base []) ≡ early_refusal folder (Purge base)
+unfolding early_refusal
+purge_as_verify folder base = refl
+
+module _ (folder : Folder) (base : List ℕ) (extras : List (List ℕ)) (purge : Bool) where
+  pub repair_unread : (fault : Fault) → set_in folder base extras ≡ Err fault → refusal folder (Repair base extras purge) ≡ Some fault
+  unfolding refusal
+  repair_unread fault e = ap (λ r. then_fault r (λ (set : ParSet). repair_refusal folder set (candidates folder set extras))) e
+
+  module _ (set : ParSet) (reads : set_in folder base extras ≡ Ok set) where
+    pub whole_if_matched : IsWholeWhereMatched folder set (candidates folder set extras)
+    whole_if_matched = whole_where_matched folder base set extras (set_in_reads folder base extras set reads).0
+
+    pub repair_refused : refusal folder (Repair base extras purge) ≡ repair_refusal folder set (candidates folder set extras)
+    unfolding refusal
+    repair_refused = ap (λ r. then_fault r (λ (set : ParSet). repair_refusal folder set (candidates folder set extras))) reads
+
+    pub repair_by_set : changes_of folder (Repair base extras purge) ≡ repair_by purge folder set (candidates folder set extras)
+    unfolding changes_of
+    repair_by_set = ap (by_set [] (λ (set : ParSet). repair_by purge folder set (candidates folder set extras))) reads
+
+    pub repair_leads : AreFew folder set → LeadsToAfter folder (Repair base extras purge)
+    repair_leads few =
+        command_leads folder (Repair base extras purge)
+        (λ other h. subst (AreFew folder) (same_ok set other (sym (set_in_reads folder base extras set reads).0 ∙ h)) few)
+
+module _ (folder : Folder) (base : List ℕ) where
+  pub purge_unread : (fault : Fault) → set_in folder base [] ≡ Err fault → refusal folder (Purge base) ≡ Some fault
+  unfolding refusal
+  purge_unread fault e = ap (λ r. then_fault r (purge_refusal folder)) e
+
+  pub purge_leads : LeadsToAfter folder (Purge base)
+  purge_leads = command_leads folder (Purge base) tt
+
+  module _ (set : ParSet) (reads : set_in folder base [] ≡ Ok set) where
+    pub purge_refused : refusal folder (Purge base) ≡ purge_refusal folder set
+    unfolding refusal
+    purge_refused = ap (λ r. then_fault r (purge_refusal folder)) reads
+
+    pub purge_by_set : changes_of folder (Purge base) ≡ purge_changes folder set
+    unfolding changes_of
+    purge_by_set = ap (by_set [] (purge_changes folder)) reads
+
+-- Names that come once.
+
+-- one more name is added if it is new
+pub distinct_more : (xs : List (List ℕ)) (x : List ℕ) → distinct (xs ++ x ∷ []) ≡ cond (is_among xs x) (distinct xs) (distinct xs ++ x ∷ [])
+distinct_more [] x = refl
+distinct_more (y ∷ xs) x = grind (arith, same_either_way y x, distinct_more xs x, filter-append (λ z. not (bytes_eq y z)) (distinct xs) (x ∷ []), append-nil (filter (λ z. not (bytes_eq y z)) (distinct xs)))
+
+out_of_filter : (x : List ℕ) (xs : List (List ℕ)) → is_among (filter (λ z. not (bytes_eq x z)) xs) x ≡ false
+out_of_filter x xs = among-filter (λ z. not (bytes_eq x z)) xs x ∙ ap (λ b. is_among xs x && not b) ((bytes_eq-Decides x x).1 refl) ∙ and-false (is_among xs x)
+
+-- each name is there once
+pub distinct_once : (xs : List (List ℕ)) → AreDistinct (distinct xs)
+distinct_once [] = tt
+distinct_once (x ∷ xs) = (out_of_filter x (distinct xs), distinct-filter (λ z. not (bytes_eq x z)) (distinct xs) (distinct_once xs))
+
+-- The base and the extras that are in the folder.
+
+-- ---- the first word that is absent
+
+later_place : {X : Type 0} (test : X → Bool) (i j : ℕ) (xs : List X) → position_from test (i + j) xs ≡ option_map (λ k. i + k) (position_from test j xs)
+later_place test i j [] = refl
+later_place test i j (x ∷ xs) = grind (arith, later_place test i (j + 1) xs)
+
+missing_behind : (folder : Folder) (base : List ℕ) (extras : List (List ℕ)) → has folder base ≡ true → missing folder (base ∷ extras) ≡ option_map (λ k. 1 + k) (missing folder extras)
+missing_behind folder base extras there =
+    let test = λ (word : List ℕ). not (has folder word) in
+    position_from-zero test (base ∷ extras)
+    ∙ ap (λ b. cond (not b) (Some 0) (position_from test 1 extras)) there
+    ∙ later_place test 1 0 extras
+    ∙ ap (option_map (λ k. 1 + k)) (sym (position_from-zero test extras))
+
+module _ (folder : Folder) (base : List ℕ) (extras : List (List ℕ)) where
+  pub base_first : has folder base ≡ false → absent_file folder base extras ≡ Some (NoSuchFile 0)
+  base_first gone =
+      let test = λ (word : List ℕ). not (has folder word) in
+      ap (option_map (λ k. NoSuchFile (0 + k))) (position_from-zero test (base ∷ extras) ∙ ap (λ b. cond (not b) (Some 0) (position_from test 1 extras)) gone)
+
+  module _ (there : has folder base ≡ true) where
+    pub extra_first : (k : ℕ) → missing folder extras ≡ Some k → absent_file folder base extras ≡ Some (NoSuchFile (k + 1))
+    extra_first k e =
+        ap (option_map (λ k. NoSuchFile (0 + k))) (missing_behind folder base extras there ∙ ap (option_map (λ k. 1 + k)) e)
+        ∙ ap (λ n. Some (NoSuchFile n)) (let n : 0 + (1 + k) ≡ k + 1 = omega arith in n)
+
+    pub none_absent : missing folder extras ≡ None → absent_file folder base extras ≡ None
+    none_absent e = ap (option_map (λ k. NoSuchFile (0 + k))) (missing_behind folder base extras there ∙ ap (option_map (λ k. 1 + k)) e)
+
+  -- an absent file is why no set is read
+  pub unread : (fault : Fault) → absent_file folder base extras ≡ Some fault → set_in folder base extras ≡ Err fault
+  unread fault e = unfold set_in in rw e refl
+
+  -- if no file is absent, the set is that of the base
+  pub all_present : absent_file folder base extras ≡ None → set_in folder base extras ≡ set_of folder base
+  all_present e = unfold set_in in rw e refl
+
+  pub is_early : early_refusal folder (Verify base extras) ≡ absent_file folder base extras
+  unfolding early_refusal
+  is_early = refl
+
+  pub not_early : absent_file folder base extras ≡ None → (fault : Fault) → early_refusal folder (Verify base extras) ≡ Some fault → ⊥
+  not_early none fault early = never_found _ fault none (sym is_early ∙ early)
+
+-- if no file is absent, each extra word is a file's name
+pub all_there : (folder : Folder) (base : List ℕ) (words : List (List ℕ)) → absent_file folder base words ≡ None → filter (has folder) words ≡ words
+all_there folder base words e = kept words (at_none 0 NoSuchFile (λ word. not (has folder word)) (base ∷ words) e).1
   where
-    step : (b : Bool) → not (length (filter test ts) == 0) ≡ list_any test ts → not (length (cond b (t ∷ filter test ts) (filter test ts)) == 0) ≡ (b || list_any test ts)
-    step true h = ap not (ne_eqb (suc (length (filter test ts))) 0 (λ e. absurd (omega (arith, e))))
-    step false h = h
+    kept : (words : List (List ℕ)) → AllByRecursion (λ word. not (has folder word) ≡ false) words → filter (has folder) words ≡ words
+    kept [] h = refl
+    kept (word ∷ words) h = let there = h.0 in grind (arith, kept words h.1)
+
+-- The matches of incomplete targets, by numbers and by names.
+
+-- ---- numbers are indices
+
+left_hold : (P : ℕ → Type 0) (o : Option ℕ) (free : List ℕ) → AllByRecursion P free → AllByRecursion P (without_number o free)
+left_hold P None free h = h
+left_hold P (Some taken) free h = all-filter P (λ i. not (i == taken)) free h
+
+-- each number has a name
+named : (names : List (List ℕ)) (s : ℕ) (buffers : List (List ℕ)) (ts : List Target) (free : List ℕ) → AllByRecursion (λ i. i < length names) free
+    → map (option_and_then (slice_get names)) (matched_from s buffers free ts) ≡ map (option_map (listed_at names)) (matched_from s buffers free ts)
+named names s buffers [] free h = refl
+named names s buffers (t ∷ ts) free h =
+    ap₂ (λ (name : Option (List ℕ)) (found : List (Option (List ℕ))). name ∷ found) (one (first_intact s buffers t free) (λ i e. (found_one (λ i. i < length names) _ free h i e).0))
+    (named names s buffers ts (without_number (first_intact s buffers t free) free) (left_hold (λ i. i < length names) (first_intact s buffers t free) free h))
+  where
+    one : (o : Option ℕ) → ((i : ℕ) → o ≡ Some i → i < length names) → option_and_then (slice_get names) o ≡ option_map (listed_at names) o
+    one None h = refl
+    one (Some i) h = slice_get-get_or names i [] (h i refl)
+
+-- ---- the matches of a set
+
+module _ (folder : Folder) (set : ParSet) (searched : List (List ℕ)) where
+  -- the candidates that aren't names of intact targets
+  abbrev pub free_by : List (List ℕ)
+  free_by = filter (λ name. not (is_among (intact_names folder set) name)) searched
+
+  pub matches_by_numbers : IsDistinct bytes_eq searched → NumbersAreNames folder set.slice_size free_by (incomplete folder set)
+      → zip (incomplete folder set) (map (option_and_then (slice_get free_by)) (matched_numbers set.slice_size (map (bytes_of folder) free_by) (incomplete folder set))) ≡ matches folder set searched
+  unfolding matches all_below
+  matches_by_numbers once law =
+      let buffers : List (List ℕ) = map (bytes_of folder) free_by in
+      let low : AllByRecursion (λ i. i < length free_by) (range_with_len 0 (length buffers)) = subst (λ n. AllByRecursion (λ i. i < n) (range_with_len 0 (length buffers))) (length-map free_by (bytes_of folder)) (all_below_are (length buffers)) in
+      ap (λ found. zip (incomplete folder set) found)
+      (named free_by set.slice_size buffers (incomplete folder set) (range_with_len 0 (length buffers)) low
+      ∙ law (std_from_distinct free_by (distinct-filter _ searched (distinct_from_std searched once))))

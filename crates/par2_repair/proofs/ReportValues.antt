@@ -1,27 +1,90 @@
--- A report by what is found is that of the definitions.
-use Rattle.par2_repair.proofs.Common.{◌≡◌, ◌<◌, ◌≤◌, ℕ, suc, arith, ◌+◌, ◌||◌, List, [], ◌∷◌, length, map, refl, sym, ap, ap₂, ◌∙◌, Bool, true, false, not, cond, false_from_ne_true, Option, is_none, is_some, filter, option_map, option_and_then, None, Some, enumerate_from, list_any, AllByRecursion, length-map, bytes_eq, subst, IsDistinct, is_among, eq_by_cmp, slice_cmp, nat_cmp, BTreeMap, AreDistinct, among_some, clash, distinct_from_std, std_from_distinct, itself, same_either_way, Fault, Pair, found, rank, Folder, bytes_of, has, ParSet, Target, all_pairs, is_incomplete, matches, lost, survivors, candidates, known, set_in, Complete, Report, TargetReport, incomplete_state, report_of_target, report_of, report_in, set_in_reads, sound_of, present_searched, size_positive, sized_from_counted, targets_found, HoldsMatches, names_without_match, numbers_of_lost, pair_cmp, pairs_sought, report_by, said_of, Ok, Err}
-use Rattle.std.proofs.lemmas.Bool.{or_parts}
+-- Lists of slices, part by part.
+use Rattle.par2_repair.proofs.Common.{◌≡◌, ◌∙◌, cond, List, ◌∷◌, OnOk, is_ok, Result, Ok, Err, [], ℕ, Bool, true, false, ◌&&◌, map, refl, sym, ap, ap₂, and_parts, eq-eqb, or_right, is_some, is_none, filter, flat_map, zip, filter_map, list_any, Option, None, Some, AllByRecursion, eq_by_cmp, itself, Pair, Target, Window, padded_windows, count_cmp, pairs_sought, arith, ◌+◌, ◌||◌, length, not, false_from_ne_true, option_map, option_and_then, enumerate_from, length-map, bytes_eq, subst, IsDistinct, is_among, slice_cmp, nat_cmp, BTreeMap, AreDistinct, among_some, clash, distinct_from_std, std_from_distinct, same_either_way, Fault, found, rank, Folder, bytes_of, has, ParSet, all_pairs, is_incomplete, matches, lost, survivors, candidates, known, set_in, Complete, Report, TargetReport, incomplete_state, report_of_target, report_of, report_in, set_in_reads, sound_of, present_searched, size_positive, sized_from_counted, targets_found, HoldsMatches, names_without_match, numbers_of_lost, said_of}
+use Rattle.std.proofs.Math.Bool.{and-true}
+use Rattle.std.proofs.lemmas.Bool.{or_left, eqb-true, or_parts}
+use Rattle.std.proofs.lemmas.List.Folds.{list_any-append}
+use Rattle.std.proofs.lemmas.Map.Views.{any-filter_same}
 use Rattle.std.specs.BTreeMap.{get}
 use Rattle.std.specs.Option.{option_map_or}
 use Rattle.std.specs.Prelude.{find}
-use Rattle.par2_spec.specs.Reports.{state_of}
-use Rattle.par2_spec.proofs.ListsLaws.{all-both, all-flat_map}
-use Rattle.par2_spec.proofs.RankLaws.{all_weaker}
+use Rattle.par2_sets.proofs.Reading.{same_count}
+use Rattle.par2_spec.proofs.ListsLaws.{same_name, distinct_some, all-both, all-flat_map}
+use Rattle.par2_spec.specs.Prelude.{state_of}
+use Rattle.par2_spec.proofs.SearchLaws.{all_weaker}
 use Rattle.par2_spec.proofs.ReportLaws.{by_target}
-use Rattle.par2_spec.proofs.NamesLaws.{distinct_some}
-use Rattle.par2_repair.proofs.FoundSlices.{lost_exactly}
 use Rattle.par2_repair.proofs.RepairParts.{names_in_pairs}
 
--- ---- numbers
+-- equal lists have equal heads and tails
+pub heads : {X : Type 0} (x y : X) (xs ys : List X) → x ∷ xs ≡ y ∷ ys → (x ≡ y) × (xs ≡ ys)
+heads x y xs ys e = (cc, cc)
 
--- numbers from n on are less than the end
-pub lost_below : (is_lost : Pair → Bool) (n m : ℕ) (pairs : List Pair) → n + length pairs ≤ m → AllByRecursion (λ i. i < m) (numbers_of_lost n is_lost pairs)
-lost_below is_lost n m [] h = tt
-lost_below is_lost n m (pair ∷ pairs) h = step (is_lost pair) (lost_below is_lost (n + 1) m pairs (omega (arith, h)))
-  where
-    step : (b : Bool) → AllByRecursion (λ i. i < m) (numbers_of_lost (n + 1) is_lost pairs) → AllByRecursion (λ i. i < m) (map (λ z. z.0) (cond b ((n, pair) ∷ filter (λ z. is_lost z.1) (enumerate_from (n + 1) pairs)) (filter (λ z. is_lost z.1) (enumerate_from (n + 1) pairs))))
-    step true k = (omega (arith, h), k)
-    step false k = k
+-- a list is the expected one if the call that makes it succeeds
+pub where_ok : {X A E : Type 0} (r : Result A E) (new made old wanted : List X) → new ≡ cond (is_ok r) made old → made ≡ wanted → OnOk r (new ≡ wanted)
+where_ok (Ok x) new made old wanted e h = e ∙ h
+where_ok (Err x) new made old wanted e h = tt
+
+-- Which slices are lost.
+
+-- the checksums of a slice without a window
+abbrev pub lost_one : Pair × Window → Option Pair
+lost_one z = cond (is_none z.1) (Some z.0) None
+
+pub lost_among : (s : ℕ) (f : Pair → Option (List ℕ)) (pairs : List Pair) (windows : List Window) → padded_windows s windows ≡ map f pairs → filter_map lost_one (zip pairs windows) ≡ filter (λ pair. is_none (f pair)) pairs
+lost_among s f [] windows h = refl
+lost_among s f (pair ∷ pairs) [] h = absurd (let no : ⊥ = cc in no)
+lost_among s f (pair ∷ pairs) (None ∷ windows) h = let r = heads _ _ _ _ h in let rest = lost_among s f pairs windows r.1 in grind (arith, r.0, rest)
+lost_among s f (pair ∷ pairs) (Some bytes ∷ windows) h = let r = heads _ _ _ _ h in let rest = lost_among s f pairs windows r.1 in grind (arith, r.0, rest)
+
+-- checksums that the order doesn't tell apart are equal
+same_pair : (p q : Pair) → eq_by_cmp count_cmp p q ≡ true → q ≡ p
+same_pair (a, n) (b, m) e =
+    let r = and_parts _ _ (sym (same_count a b n m) ∙ e) in
+    ap₂ (λ (md5 : List ℕ) (crc : ℕ). (md5, crc)) (same_name b a r.0) (eqb-true m n r.1)
+
+own_pair : (p : Pair) → eq_by_cmp count_cmp p p ≡ true
+own_pair (a, n) = same_count a a n n ∙ ap₂ (λ x y. x && y) (itself a) (eq-eqb n n refl)
+
+module _ (f : Pair → Option (List ℕ)) where
+  -- those of these checksums whose slices aren't found
+  abbrev pub lost_in : List Pair → List Pair
+  lost_in pairs = filter (λ pair. is_none (f pair)) pairs
+
+  abbrev pub IsKept : List Pair → Pair → Type 0
+  IsKept sought pair = list_any (eq_by_cmp count_cmp pair) (lost_in sought) ≡ is_none (f pair)
+
+  kept : (sought : List Pair) (pair : Pair) → list_any (eq_by_cmp count_cmp pair) (lost_in sought) ≡ (is_none (f pair) && list_any (eq_by_cmp count_cmp pair) sought)
+  kept sought pair = any-filter_same (eq_by_cmp count_cmp pair) (λ p. is_none (f p)) (is_none (f pair)) (λ q e. ap (λ p. is_none (f p)) (same_pair pair q e)) sought
+
+  abbrev Within : List Pair → List Pair → Type 0
+  Within pairs sought = (pair : Pair) → list_any (eq_by_cmp count_cmp pair) pairs ≡ true → list_any (eq_by_cmp count_cmp pair) sought ≡ true
+
+  all_sought : (sought pairs : List Pair) → Within pairs sought → AllByRecursion (IsKept sought) pairs
+  all_sought sought [] h = tt
+  all_sought sought (pair ∷ pairs) h =
+      (kept sought pair ∙ ap (λ b. is_none (f pair) && b) (h pair (or_left _ _ (own_pair pair))) ∙ and-true (is_none (f pair)), all_sought sought pairs (λ p e. h p (or_right _ _ e)))
+
+  all_found : (sought pairs : List Pair) → AllByRecursion (λ pair. is_some (f pair) ≡ true) pairs → AllByRecursion (IsKept sought) pairs
+  all_found sought [] h = tt
+  all_found sought (pair ∷ pairs) h = (let some = h.0 in grind (arith, kept sought pair), all_found sought pairs h.1)
+
+  -- if all slices of the other targets are found, a slice of the set is lost exactly if it is one of the lost ones that
+  -- are searched for
+  pub lost_exactly : (sought : Target → Bool) (all : List Pair) (ts : List Target) → Within (pairs_sought sought ts) all
+      → AllByRecursion (λ t. sought t ≡ false → AllByRecursion (λ pair. is_some (f pair) ≡ true) t.pairs) ts → AllByRecursion (λ t. AllByRecursion (IsKept all) t.pairs) ts
+  lost_exactly sought all [] within h = tt
+  lost_exactly sought all (t ∷ ts) within h = step (sought t) refl within (λ k. lost_exactly sought all ts k h.1)
+    where
+      step : (b : Bool) → sought t ≡ b → Within (flat_map (λ (u : Target). u.pairs) (cond b (t ∷ filter sought ts) (filter sought ts))) all
+          → (Within (pairs_sought sought ts) all → AllByRecursion (λ u. AllByRecursion (IsKept all) u.pairs) ts) → AllByRecursion (λ u. AllByRecursion (IsKept all) u.pairs) (t ∷ ts)
+      step true e k rest = (
+        all_sought all t.pairs (λ p i. k p (list_any-append _ t.pairs _ ∙ or_left _ _ i)),
+        rest (λ p i. k p (list_any-append _ t.pairs _ ∙ or_right (list_any (eq_by_cmp count_cmp p) t.pairs) _ i)),
+      )
+      step false e k rest = (all_found all t.pairs (h.0 e), rest k)
+
+-- A report by what is found is that of the definitions.
+
+-- ---- numbers
 
 -- exactly the slices that aren't found are lost
 abbrev AreLost : (Pair → Option (List ℕ)) → (Pair → Bool) → List Pair → Type 0
@@ -29,23 +92,11 @@ AreLost f is_lost pairs = AllByRecursion (λ pair. is_lost pair ≡ is_none (f p
 
 numbered : (f : Pair → Option (List ℕ)) (is_lost : Pair → Bool) (n : ℕ) (pairs : List Pair) → AreLost f is_lost pairs → numbers_of_lost n is_lost pairs ≡ map (λ z. z.0) (filter (λ z. is_none z.1) (enumerate_from n (map f pairs)))
 numbered f is_lost n [] h = refl
-numbered f is_lost n (pair ∷ pairs) h = step (is_lost pair) (is_none (f pair)) h.0 _ _ (numbered f is_lost (n + 1) pairs h.1)
-  where
-    step : (a b : Bool) → a ≡ b → (xs : List (ℕ × Pair)) (ys : List (ℕ × Option (List ℕ))) → map (λ z. z.0) xs ≡ map (λ z. z.0) ys → map (λ z. z.0) (cond a ((n, pair) ∷ xs) xs) ≡ map (λ z. z.0) (cond b ((n, f pair) ∷ ys) ys)
-    step true true e xs ys h = ap (λ ns. n ∷ ns) h
-    step true false e xs ys h = absurd (let no : ⊥ = cc in no)
-    step false true e xs ys h = absurd (let no : ⊥ = cc in no)
-    step false false e xs ys h = h
+numbered f is_lost n (pair ∷ pairs) h = let here = h.0 in grind (arith, numbered f is_lost (n + 1) pairs h.1)
 
 found_count : (f : Pair → Option (List ℕ)) (is_lost : Pair → Bool) (pairs : List Pair) → AreLost f is_lost pairs → length (filter (λ pair. not (is_lost pair)) pairs) ≡ length (filter (λ slice. is_some slice) (map f pairs))
 found_count f is_lost [] h = refl
-found_count f is_lost (pair ∷ pairs) h = step (is_lost pair) (f pair) h.0 _ _ (found_count f is_lost pairs h.1)
-  where
-    step : (b : Bool) (o : Option (List ℕ)) → b ≡ is_none o → (xs : List Pair) (ys : List (Option (List ℕ))) → length xs ≡ length ys → length (cond (not b) (pair ∷ xs) xs) ≡ length (cond (is_some o) (o ∷ ys) ys)
-    step true None e xs ys h = h
-    step true (Some slice) e xs ys h = absurd (let no : ⊥ = cc in no)
-    step false None e xs ys h = absurd (let no : ⊥ = cc in no)
-    step false (Some slice) e xs ys h = ap suc h
+found_count f is_lost (pair ∷ pairs) h = let here = h.0 in grind (arith, found_count f is_lost pairs h.1)
 
 -- ---- target by target
 
@@ -78,10 +129,7 @@ passing p (t ∷ ts) d = (first (p t), all-both _ _ _ (λ u out is. later (p t) 
     later false u out = refl
 
 state_is : (there : Bool) (o : Option (Target × Option (List ℕ))) (b : Bool) → is_some o ≡ b → option_map_or (incomplete_state there) (option_map (λ m. m.1) o) Complete ≡ cond b (incomplete_state there (option_and_then (λ m. m.1) o)) Complete
-state_is there None true e = absurd (let no : ⊥ = cc in no)
-state_is there None false e = refl
-state_is there (Some m) true e = refl
-state_is there (Some m) false e = absurd (let no : ⊥ = cc in no)
+state_is there o b e = grind arith
 
 module _ (folder : Folder) (set : ParSet) (searched : List (List ℕ)) (tree : BTreeMap (List ℕ) (Option (List ℕ))) (held : HoldsMatches (matches folder set searched) tree) where
   states : AreDistinct (map (λ t. t.name) set.targets) → AllByRecursion (λ t. option_map_or (incomplete_state (has folder t.name)) (get (slice_cmp nat_cmp) tree t.name) Complete ≡ state_of folder set searched t) set.targets
@@ -125,7 +173,7 @@ module _ (folder : Folder) (base : List ℕ) (extras : List (List ℕ)) where
 
     -- the report by the matches, and by the lost slices among those that are searched for
     module _ (tree : BTreeMap (List ℕ) (Option (List ℕ))) (is_lost : Pair → Bool) (held : HoldsMatches (matches folder set names) tree)
-        (lost_are : (pair : Pair) → is_lost pair ≡ list_any (eq_by_cmp pair_cmp pair) (filter (λ p. is_none (finder p)) (pairs_sought (is_sought folder set names) set.targets))) where
+        (lost_are : (pair : Pair) → is_lost pair ≡ list_any (eq_by_cmp count_cmp pair) (filter (λ p. is_none (finder p)) (pairs_sought (is_sought folder set names) set.targets))) where
       are_lost : AllByRecursion (λ t. AreLost finder is_lost t.pairs) set.targets
       are_lost =
           let sound = sound_of folder base set (set_in_reads folder base extras set reads).0 in
@@ -133,12 +181,14 @@ module _ (folder : Folder) (base : List ℕ) (extras : List (List ℕ)) where
           (lost_exactly finder (is_sought folder set names) (pairs_sought (is_sought folder set names) set.targets) set.targets (λ pair h. h)
           (targets_found folder set names (size_positive set.slice_size sound.size) (sized_from_counted set.slice_size set.targets sound.pairs) (present_searched folder set extras)))
 
-      pub answered : report_in folder base extras ≡ Ok (report_by folder set tree is_lost)
+      -- the report has these parts
+      pub answered : (reports : List TargetReport) (numbers : List ℕ) (count : ℕ) → reports ≡ map (said_of folder tree is_lost) set.targets → numbers ≡ numbers_of_lost 0 is_lost (all_pairs set)
+          → count ≡ rank numbers (survivors set) → report_in folder base extras ≡ Ok (record { set_id = set.id; targets = reports; lost = length numbers; rank = count })
       unfolding report_of known
-      answered =
+      answered reports numbers count said lost_ones is_rank =
           let sound = sound_of folder base set (set_in_reads folder base extras set reads).0 in
-          let said : map (said_of folder tree is_lost) set.targets ≡ (report_of folder set names).targets =
-          said_so folder set names tree held finder is_lost set.targets (states folder set names tree held (distinct_from_std _ sound.names_once)) are_lost ∙ sym (by_target folder set names) in
-          let missing : numbers_of_lost 0 is_lost (all_pairs set) ≡ lost (known folder set names) = numbered finder is_lost 0 (all_pairs set) (all-flat_map _ _ (λ (t : Target). t.pairs) (λ t h. h) set.targets are_lost) in
-          accepted_in ∙ ap Ok (sym (ap₂ (λ (reports : List TargetReport) (numbers : List ℕ).
-          let r : Report = record { set_id = set.id; targets = reports; lost = length numbers; rank = rank numbers (survivors set) } in r) said missing))
+          let reported : reports ≡ (report_of folder set names).targets =
+          said ∙ said_so folder set names tree held finder is_lost set.targets (states folder set names tree held (distinct_from_std _ sound.names_once)) are_lost ∙ sym (by_target folder set names) in
+          let missing : numbers ≡ lost (known folder set names) = lost_ones ∙ numbered finder is_lost 0 (all_pairs set) (all-flat_map _ _ (λ (t : Target). t.pairs) (λ t h. h) set.targets are_lost) in
+          let report = λ (reports : List TargetReport) (numbers : List ℕ) (count : ℕ). let r : Report = record { set_id = set.id; targets = reports; lost = length numbers; rank = count } in r in
+          accepted_in ∙ ap Ok (sym (ap (report reports numbers) is_rank ∙ ap₂ (λ (rs : List TargetReport) (ns : List ℕ). report rs ns (rank ns (survivors set))) reported missing))

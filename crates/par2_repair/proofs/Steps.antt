@@ -1,13 +1,10 @@
 -- What `auto` is given, by the function that needs it.
-use Rattle.par2_repair.proofs.Common.{AllZip-long, IfOk-weaker, MatchOption-at_some, YieldsList-from_map, YieldsList-from_slice, all-filter, answered_so, append-nil, append_assoc, both_ways, bytes_eq-Decides, drop-map, drop_all, drop_more, eq-eqb, err_again, err_from_is_err_and, err_passed, false_from_ne_true, items_from_collect, length-append, length-map, list_all-map, map-append, map-map, ne_eqb, ok_no_err, refused_by, slice_eq-Decides, std_from_distinct, take-map}
-use Rattle.par2_repair.proofs.RepairParts.{changes_are, not_repairable, removals_are}
-use Rattle.par2_repair.proofs.PlanParts.{purge_as_verify, purge_by_set, purge_refused, purge_unread, repair_as_verify, repair_refused, repair_unread, whole_if_matched}
+use Rattle.par2_repair.proofs.Common.{IfOk-weaker, MatchOption-at_some, YieldsList-from_map, YieldsList-from_slice, answered_so, append-nil, append_assoc, both_ways, bytes_eq-Decides, drop_all, drop_more, eq-eqb, err_again, err_from_is_err_and, err_passed, false_from_ne_true, items_from_collect, length-append, list_all-map, map-append, map-map, ne_eqb, ok_no_err, refused_by, slice_eq-Decides, std_from_distinct, take_all}
+use Rattle.par2_repair.proofs.RepairParts.{changes_are, not_repairable, removals_are, purge_as_verify, purge_by_set, purge_refused, purge_unread, repair_as_verify, repair_refused, repair_unread, whole_if_matched, all_present, all_there, base_first, extra_first, is_early, none_absent, not_early, unread, distinct_once}
 use Rattle.par2_spec.proofs.Places.{position-map}
-use Rattle.par2_repair.proofs.Present.{all_present, all_there, base_first, extra_first, is_early, none_absent, not_early, unread}
 use Rattle.par2_spec.proofs.MovesLaws.{no_names_file}
-use Rattle.par2_repair.proofs.Choices.{distinct_once}
 use Rattle.par2_repair.proofs.Drafts.{is_draft}
-use Rattle.par2_repair.proofs.Rebuilds.{enough_for, fault_for, no_fault, rebuilt_for}
+use Rattle.par2_repair.proofs.Restoring.{lost_fault, no_fault}
 use Rattle.par2_repair.proofs.ReportValues.{refused_in}
 
 pub ruleset tested = (both_ways, bytes_eq-Decides, slice_eq-Decides)
@@ -24,8 +21,6 @@ pub ruleset read = (err_from_is_err_and, err_again, answered_so, unread, all_pre
 
 pub ruleset draft_repair = (err_from_is_err_and, IfOk-weaker, std_from_distinct, ok_no_err, refused_by, err_passed, distinct_once, is_draft, repair_as_verify, repair_unread, whole_if_matched, repair_refused)
 
-pub ruleset draft_with = (err_from_is_err_and, refused_by, not_repairable)
-
 pub ruleset md5s_of = (YieldsList-from_map, YieldsList-from_slice, items_from_collect)
 
 pub ruleset verdict = (eq-eqb, ne_eqb, list_all-map)
@@ -34,12 +29,10 @@ pub ruleset lost_numbers = (append-nil, drop_all)
 
 pub ruleset rank_of = (map-map, IfOk-weaker, MatchOption-at_some)
 
-pub ruleset restored_files = (append-nil, drop_all, drop_more, length-append, all-filter)
-
-pub ruleset file = (take-map, drop-map, IfOk-weaker)
+pub ruleset cut_out = (append-nil, drop_all, drop_more, length-append, take_all)
 
 pub ruleset merged = (append-nil, append_assoc, drop_all, drop_more, map-append)
 
-pub ruleset restored_slices = (length-map, AllZip-long, rebuilt_for, enough_for, fault_for, no_fault)
+pub ruleset restored_files = (err_from_is_err_and, no_fault, lost_fault)
 
 pub ruleset check = (err_from_is_err_and, ok_no_err, refused_by, err_passed, refused_in)

@@ -1,31 +1,11 @@
 -- Findings on a set.
-use Rattle.std.specs.Prelude.{◌≡◌, ℕ, Bool, List, length, map, flat_map, filter, find, not, Option, option_map}
-use Rattle.std.specs.BTreeMap.{BTreeMap, get}
-use Rattle.std.specs.BTreeSet.{BTreeSet, contains}
-use Rattle.std.specs.Cmp.Lexicographic.{slice_cmp}
-use Rattle.std.specs.List.{enumerate_from, list_any}
-use Rattle.std.specs.Option.{option_map_or}
-use Rattle.std.specs.Ordering.{eq_by_cmp, nat_cmp, ordering_then}
-use Rattle.std.specs.Str.{bytes_eq}
-use Rattle.std.specs.declared.cmp.Ordering.{Ordering}
-use Rattle.par2_spec.specs.Checksums.{Pair}
-use Rattle.par2_spec.specs.Folders.{Folder, has}
-use Rattle.par2_spec.specs.Rank.{rank}
-use Rattle.par2_spec.specs.Reports.{Complete, Report, TargetReport, incomplete_state}
-use Rattle.par2_spec.specs.Search.{survivors}
-use Rattle.par2_spec.specs.Sets.{all_pairs, ParSet, Target}
+use Rattle.std.specs.Prelude.{◌≡◌, ℕ, Bool, List, length, map, flat_map, filter, find, not, Option, option_map, String, string_bytes}
+use Rattle.std.specs.BTreeMap.{get}
+use Rattle.par2_spec.specs.Prelude.{BTreeMap, slice_cmp, enumerate_from, option_map_or, nat_cmp, bytes_eq, Pair, Folder, has, Complete, TargetReport, incomplete_state, Target}
 
 -- the slice checksums of those targets whose slices are searched for, in order
 abbrev pub pairs_sought : (Target → Bool) → List Target → List Pair
 pairs_sought sought targets = flat_map (λ t. t.pairs) (filter sought targets)
-
--- the order of the checksums of slices
-abbrev pub pair_cmp : Pair → Pair → Ordering
-pair_cmp a b = ordering_then (slice_cmp nat_cmp a.0 b.0) (nat_cmp a.1 b.1)
-
--- a tree holds exactly these checksums
-abbrev pub HoldsPairs : BTreeSet Pair → List Pair → Type 0
-HoldsPairs tree pairs = (pair : Pair) → contains pair_cmp tree pair ≡ list_any (eq_by_cmp pair_cmp pair) pairs
 
 -- a map holds the matches of incomplete targets by their names
 abbrev pub HoldsMatches : List (Target × Option (List ℕ)) → BTreeMap (List ℕ) (Option (List ℕ)) → Type 0
@@ -45,13 +25,6 @@ said_of folder matches is_lost t = record {
 abbrev pub numbers_of_lost : ℕ → (Pair → Bool) → List Pair → List ℕ
 numbers_of_lost n is_lost pairs = map (λ z. z.0) (filter (λ z. is_lost z.1) (enumerate_from n pairs))
 
--- the report on a set, by its matches and the lost slices
-abbrev pub report_by : Folder → ParSet → BTreeMap (List ℕ) (Option (List ℕ)) → (Pair → Bool) → Report
-report_by folder set matches is_lost =
-    let lost = numbers_of_lost 0 is_lost (all_pairs set) in
-    record {
-      set_id = set.id;
-      targets = map (said_of folder matches is_lost) set.targets;
-      lost = length lost;
-      rank = rank lost (survivors set);
-    }
+-- the words of a command as bytes
+abbrev pub words : {Z : Type 0} → List (String Z) → List (List ℕ)
+words extras = map string_bytes extras

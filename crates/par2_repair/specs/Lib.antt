@@ -1,9 +1,3 @@
-pub mod Drafts
-pub mod Findings
-pub mod Repairing
-pub mod Restoring
-pub mod SliceBytes
-pub mod Survivors
 pub mod ReportViews
-pub mod Written
-pub mod Words
+pub mod Repairing
+pub mod Findings

@@ -1,39 +1,28 @@
--- The parts of a repair.
-use Rattle.std.specs.Prelude.{◌≡◌, ◌⊎◌, ℕ, ◌++◌, Bool, not, List, [], length, map, filter, filter_map, Option, Some, None, option_map, unwrap_or, Ok, if◌then◌else◌}
-use Rattle.std.specs.BTreeMap.{BTreeMap, get}
-use Rattle.std.specs.BTreeSet.{BTreeSet, contains}
-use Rattle.std.specs.Cmp.Lexicographic.{slice_cmp}
-use Rattle.std.specs.List.{AllByRecursion}
-use Rattle.std.specs.Ordering.{nat_cmp}
+-- The files that a repair restores, and why it refuses to.
+use Rattle.std.specs.Prelude.{ℕ, not, List, length, map, filter, Option, ◌≡◌, ◌++◌, Bool, filter_map, Some, None, option_map, unwrap_or, Ok, if◌then◌else◌, IsTrue}
+use Rattle.par2_spec.specs.Prelude.{AllByRecursion, BTreeMap, BTreeSet, contains, slice_cmp, nat_cmp, fault_where, is_among, is_repairable, rank, entries, known, rebuilt_targets, lost, survivors, ParSet, IsSound, Target, Change, Write, Rename, Remove, Replace, are_applicable, effects, Folder, has, repair_changes, repair_removals, changes_of, AreFewFor, set_in, refusal, after, Repair}
+use Rattle.std.specs.BTreeMap.{get}
+use Rattle.par2_spec.specs.declared.Fault.{Fault}
+use Rattle.par2_spec.specs.declared.Fault.TheVariants.{NotRepairable, RepairFailed}
 use Rattle.md5.specs.Md5.{md5}
-use Rattle.par2_spec.specs.Changes.{Change, Write, Rename, Remove}
-use Rattle.par2_spec.specs.Folders.{Folder, bytes_of, has}
-use Rattle.par2_spec.specs.Names.{is_among}
-use Rattle.par2_spec.specs.Plans.{now_at, repair_changes, repair_removals}
-use Rattle.par2_spec.specs.Refusals.{set_in}
-use Rattle.par2_spec.specs.Repairs.{names_without_match, put_aside, rebuilt, rebuilt_targets}
-use Rattle.par2_spec.specs.Search.{known, lost}
+use Rattle.par2_solve.specs.Rebuilding.{known_of, recovered_of}
+use Rattle.par2_solve.specs.declared.rebuild_slices.Survivors.{Survivors}
+use Rattle.par2_repair.specs.declared.repair.Draft.{Draft}
 use Rattle.par2_spec.specs.Search as search
-use Rattle.par2_spec.specs.Sets.{ParSet, Target}
-use Rattle.par2_repair.specs.Restoring.{known_in, targets_among, undetermined_fault}
-use Rattle.par2_repair.specs.declared.moves.Moves.{Moves}
 
--- if each incomplete target has a match, nothing is lost
-abbrev pub IsWholeWhereMatched : Folder → ParSet → List (List ℕ) → Type 0
-IsWholeWhereMatched folder set searched = names_without_match (search.matches folder set searched) ≡ [] → lost (known folder set searched) ≡ []
+-- why the lost slices can't be rebuilt, if they can't: their rank is too low
+abbrev pub undetermined_fault : Folder → ParSet → List (List ℕ) → Option Fault
+undetermined_fault folder set searched =
+    let missing = lost (known folder set searched) in
+    fault_where (not (is_repairable missing (survivors set))) (NotRepairable (length missing) (rank missing (survivors set)))
 
--- ---- slices and files
-
--- the slices of a set that are found in the files of these names
-abbrev pub known_by : Folder → ParSet → List (List ℕ) → List (Option (List ℕ))
-known_by folder set searched = known_in set (map (bytes_of folder) searched)
-
--- the targets with these names, cut out of the known and rebuilt slices. If there are names, the lost slices can be
--- rebuilt
-pub record AreRestored (set : ParSet) (known : List (Option (List ℕ))) (names : List (List ℕ)) (restored : List (Target × List ℕ)) : Type 0 where
-  pub targets : restored ≡ targets_among set (rebuilt set known) names
-  pub lengths : AllByRecursion (λ c. length c.1 ≡ c.0.length) (targets_among set (rebuilt set known) names)
-  pub determined : (names ≡ []) ⊎ (undetermined_fault set known ≡ None)
+-- these are the survivors of a sound set: its slice size, the slices that are found in these files, and its recovery
+-- slices
+pub record AreSurvivorsOf (folder : Folder) (set : ParSet) (searched : List (List ℕ)) (survivors : Survivors) : Type 0 where
+  pub sound : IsSound set
+  pub size : survivors.slice ≡ set.slice_size
+  pub known : known_of survivors.slice survivors.known.items ≡ known folder set searched
+  pub recovery : recovered_of survivors.recovery.items ≡ entries set.recovery
 
 -- a target's bytes have the length and the MD5 that it describes
 pub record IsAsDescribed (c : Target × List ℕ) : Type 0 where
@@ -44,8 +33,6 @@ pub record IsAsDescribed (c : Target × List ℕ) : Type 0 where
 abbrev pub WritesAsDescribed : Folder → List ℕ → List (List ℕ) → Type 0
 WritesAsDescribed folder base extras =
     (set : ParSet) → set_in folder base extras ≡ Ok set → AllByRecursion IsAsDescribed (rebuilt_targets folder set (search.candidates folder set extras))
-
--- ---- changes
 
 -- the name of a file once files are put aside: its aside, if it has one, and otherwise its own name
 abbrev pub place_in : BTreeMap (List ℕ) (List ℕ) → List ℕ → List ℕ
@@ -78,14 +65,40 @@ removed asides matching names =
 abbrev pub names_there : Folder → List (Target × Option (List ℕ)) → List (List ℕ)
 names_there folder incomplete = map (λ m. m.0.name) (filter (λ m. has folder m.0.name) incomplete)
 
--- what a repair moves, by the names that are searched: the incomplete targets with their matches, and the files put
--- aside with their asides
-pub record AreMoves (folder : Folder) (set : ParSet) (searched : List (List ℕ)) (moves : Moves) : Type 0 where
-  pub incomplete : moves.incomplete.now ≡ search.matches folder set searched
-  pub names : moves.put_aside.items ≡ put_aside folder set
-  pub asides : (name : List ℕ) → place_in moves.asides name ≡ now_at folder set name
-
 -- the changes of a repair, which may purge
 abbrev pub repair_by : Bool → Folder → ParSet → List (List ℕ) → List Change
 repair_by purge folder set searched =
     if purge then repair_changes folder set searched ++ repair_removals folder set searched else repair_changes folder set searched
+
+-- The bytes that changes write.
+
+-- the bytes that a change writes, if it writes any
+abbrev pub bytes_written : Change → Option (List ℕ)
+bytes_written (Write name bytes) = Some bytes
+bytes_written (Replace name bytes) = Some bytes
+bytes_written (Rename from to) = None
+bytes_written (Remove name) = None
+
+-- the bytes of the files that changes write, in order
+abbrev pub buffers_written : List Change → List (List ℕ)
+buffers_written changes = filter_map bytes_written changes
+
+-- Drafts: repairs whose written files aren't checked yet.
+
+-- the written files have the MD5s that the draft has for them
+abbrev pub HasItsMd5s : Draft → Type 0
+HasItsMd5s draft = map md5 (buffers_written draft.changes) ≡ draft.md5s.items
+
+-- the draft of a repair of the set of a base: its changes are right, and whether its MD5s are decides the refusal
+pub record IsDraft (folder : Folder) (base : List ℕ) (extras : List (List ℕ)) (purge : Bool) (draft : Draft) : Type 0 where
+  -- its changes are those of the definitions, apply in order and lead to their folder, even if an MD5 is wrong
+  pub changes : draft.changes ≡ changes_of folder (Repair base extras purge)
+  pub applies : IsTrue (are_applicable folder draft.changes)
+  pub leads : effects folder draft.changes ≡ after folder (Repair base extras purge)
+  -- the folder has few enough names to number the asides
+  pub few : AreFewFor folder (Repair base extras purge)
+  -- if no MD5 is wrong, the repair isn't refused, and its files are written as described
+  pub accepted : HasItsMd5s draft → refusal folder (Repair base extras purge) ≡ None
+  pub written : HasItsMd5s draft → WritesAsDescribed folder base extras
+  -- if one is, that is why the repair is refused
+  pub failed : ¬ (HasItsMd5s draft) → refusal folder (Repair base extras purge) ≡ Some RepairFailed

@@ -4,23 +4,13 @@
 //! and `matches`, and their slices by `found_windows` of `par2_slices`.
 #![tactic(auto)]
 
-mod candidates;
-mod draft;
-mod finding;
 mod matching;
-mod moves;
-mod purge;
 mod reading;
 mod repair;
 mod report;
-mod restored_files;
-mod restored_slices;
-mod verify;
+mod restored;
 
-pub use draft::Draft;
 pub use par2_files::Changes;
 pub use par2_spec::{Fault, Verdict};
-pub use purge::plan_purge;
-pub use repair::{draft_repair, plan_repair};
-pub use report::{Report, State, TargetReport};
-pub use verify::check;
+pub use repair::{Draft, draft_repair, plan_purge, plan_repair};
+pub use report::{Report, State, TargetReport, check};

@@ -1,17 +1,15 @@
 //! The incomplete targets of a set, and which candidates (targets in the folder, then extra files) are intact for them:
 //! their matches. `matches` divides the targets, leaves out the names of intact ones, and matches the others with the
 //! files of the remaining names.
-ghost use Rattle.std.specs.Prelude.{◌≡◌, ℕ, List, not, map, filter, IfOk, option_and_then, slice_get, zip};
+//! `candidates` has the names of the files that a verify and a repair search.
+
+ghost use Rattle.std.specs.Prelude.{◌≡◌, ℕ, List, not, map, filter, IfOk, option_and_then, slice_get};
 ghost use Rattle.std.specs.List.{IsDistinct};
 ghost use Rattle.std.specs.Str.{bytes_eq};
-ghost use Rattle.par2_spec.specs.Search as search;
-ghost use Rattle.par2_spec.specs.Search.{intact_names};
-ghost use Rattle.par2_slices.specs.Matching.{Describe, matched_numbers};
-ghost use Rattle.par2_spec.specs.Answers.{Lists};
-ghost use Rattle.par2_spec.specs.Folders.{bytes_of};
-ghost use Rattle.par2_spec.specs.Names.{is_among};
-ghost use Rattle.par2_spec.specs.NameTrees.{HoldsNames};
+ghost use Rattle.par2_spec.specs.Prelude.{intact_names, Lists, is_among, distinct, HoldsNames, names_without_match};
+ghost use Rattle.par2_sets.specs.SetReading.{HoldsOwned};
 ghost use Rattle.par2_repair.specs.Findings.{HoldsMatches};
+ghost use Rattle.par2_spec.specs.Search as search;
 
 use par2_files::{Folder, Name};
 use par2_sets::{ParSet, Target};
@@ -90,51 +88,11 @@ fn free_names<'n>(alloc: Global, intact: BTreeSet<&'n Name>, names: &'n [Name]) 
     Ok(free)
 }
 
-// The incomplete targets as `par2_slices` takes them: `Describe`, their lengths and slice checksums.
-fn described<'s>(alloc: Global, targets: &[&'s Target]) -> Result<Vec<par2_slices::Target<'s>>>
-    ensures { IfOk result (λ list. Describe list.items (map (λ t. t.now) targets.now)) }
-{
-    targets
-        .iter()
-        .map(|target| par2_slices::Target {
-            length: target.length(),
-            pairs: target.pairs(),
-        })
-        .collect(alloc)
-}
-
 // The name with this number, counted from 0 in the searched names, if the target has a match.
 fn name_at(names: &[Name], number: Option<usize>) -> Option<Name>
     ensures { result ≡ option_and_then (slice_get names.now) number }
 {
     names.get(number?).map(Name::copied)
-}
-
-// These targets, all incomplete ones of the set, with their matches among the files of these names. `matched_numbers`
-// has for each target the number of the first name whose file is intact for it and is no earlier target's match.
-fn with_matches<'s>(
-    alloc: Global,
-    folder: &Folder,
-    set: &ParSet,
-    names: &[Name],
-    targets: &[&'s Target],
-) -> Result<Vec<Incomplete<'s>>>
-    ensures { let buffers = map (bytes_of folder.now.files) names.now in
-        let incomplete = map (λ t. t.now) targets.now in
-        let numbers = matched_numbers set.now.slice_size buffers incomplete in
-        Lists (zip incomplete (map (option_and_then (slice_get names.now)) numbers)) result }
-{
-    let buffers = folder.bytes_of_each(names)?;
-    let described = described(alloc, targets)?;
-    let numbers = matched(alloc, &buffers, set.slice_size(), &described)?;
-    targets
-        .iter()
-        .zip(&numbers)
-        .map(|(target, number)| Incomplete {
-            target,
-            found: name_at(names, *number),
-        })
-        .collect(alloc)
 }
 
 /// The incomplete targets of a set, in target order, with their matches, which are among the candidates that aren't
@@ -152,7 +110,29 @@ pub fn matches<'s>(
     matches_by_number_are_by_name();
     let (incomplete, intact) = parted(alloc, folder, set)?;
     let free = free_names(alloc, intact, candidates)?;
-    with_matches(alloc, folder, set, &free, &incomplete)
+    let buffers = folder.bytes_of_each(&free)?;
+    let targets = incomplete.iter().map(|target| par2_slices::Target {
+        length: target.length(),
+        pairs: target.pairs(),
+    });
+    let targets: Vec<par2_slices::Target> = targets.collect(alloc)?;
+    let numbers = matched(alloc, &buffers, set.slice_size(), &targets)?;
+    let numbered = incomplete.iter().zip(&numbers);
+    let matches = numbered.map(|(target, number)| Incomplete {
+        target,
+        found: name_at(&free, *number),
+    });
+    matches.collect(alloc)
+}
+
+/// The names of the incomplete targets that have no match: their files are written from slices. `HoldsOwned`: the tree
+/// has exactly these names.
+pub fn unmatched(alloc: Global, incomplete: &[Incomplete]) -> Result<BTreeSet<Name>>
+    ensures { IfOk result (λ tree. HoldsOwned tree (names_without_match incomplete.now)) }
+{
+    let unmatched = incomplete.iter().filter(|one| one.found.is_none());
+    let names = unmatched.map(|one| one.target.name().copied());
+    names.collect(alloc)
 }
 
 /// The matches of incomplete targets, whose names are distinct, by these names.
@@ -165,4 +145,30 @@ pub fn matches_by_name(alloc: Global, incomplete: &[Incomplete]) -> Result<Match
         one.found.as_ref().map(Name::copied),
     ));
     matches.collect(alloc)
+}
+
+// Each name once, in the order of first occurrence: an extra file may be named twice or be a target.
+#[tactic(auto, using(std::proofs::lemmas::List::take_all))]
+fn distinct(alloc: Global, names: &[&Name]) -> Result<Vec<Name>>
+    ensures { IfOk result (λ list. list.items ≡ distinct (map (λ name. name.now) names.now)) }
+{
+    let mut seen = BTreeSet::new(alloc);
+    let mut list = Vec::new(alloc);
+    for name in names {
+        if seen.insert(*name)? {
+            list.push(name.copied())?;
+        }
+    }
+    Ok(list)
+}
+
+/// The names of the targets that are in the folder, then the extra names, each once.
+pub fn candidates(alloc: Global, folder: &Folder, set: &ParSet, extra: &[Name]) -> Result<Vec<Name>>
+    ensures { Lists (search.candidates folder.now.files set.now extra.now) result }
+{
+    let targets = set.targets().iter().map(Target::name);
+    let present = targets.filter(|name| folder.get(name).is_some());
+    let mut names: Vec<&Name> = present.collect(alloc)?;
+    names.extend(extra)?;
+    distinct(alloc, &names)
 }

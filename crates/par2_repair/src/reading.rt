@@ -1,11 +1,8 @@
 //! Verify, repair and purge first call `read`: it checks that the base and the extra files exist, and reads the set of
 //! the base's packets.
-ghost use Rattle.std.specs.Prelude.{◌≡◌, ◌<◌, Some, None, not, filter, position, string_bytes, is_some, IfOk, IfSome, MatchResult};
-ghost use Rattle.par2_spec.specs.Answers.{Lists};
-ghost use Rattle.par2_spec.specs.Folders.{has};
-ghost use Rattle.par2_spec.specs.Planned.{RefusesEarly, verify_of};
-ghost use Rattle.par2_repair.specs.Words.{words};
-ghost use Rattle.par2_spec.specs.Refusals.{absent_file, set_in};
+ghost use Rattle.std.specs.Prelude.{◌≡◌, ◌<◌, Some, None, not, position, string_bytes, is_some, IfOk, IfSome, MatchResult};
+ghost use Rattle.par2_spec.specs.Prelude.{has, RefusesEarly, verify_of, absent_file, set_in};
+ghost use Rattle.par2_repair.specs.Findings.{words};
 ghost use Rattle.par2_sets.specs.SetReading.{Returns, own_files};
 
 use par2_files::{Folder, Name};
@@ -58,14 +55,6 @@ fn base_name(folder: &Folder, base: &str, extras: &[String]) -> Result<Name, Fau
     }
 }
 
-// The words that are names of files in the folder.
-fn present_extras(alloc: Global, folder: &Folder, extras: &[String]) -> Result<Vec<Name>>
-    ensures { Lists (filter (has folder.now.files) (words extras.now)) result }
-{
-    let names = extras.iter().filter_map(|word| present(folder, word));
-    names.collect(alloc)
-}
-
 /// Reads the set of the base. A file that is absent is the first fault, and finding it takes no memory.
 #[tactic(auto, using(crate::proofs::Steps::read))]
 pub fn read<'a>(
@@ -81,7 +70,8 @@ pub fn read<'a>(
     ensures extras { IfOk result (λ r. r.extras.items ≡ words extras.now) }
 {
     let base = base_name(folder, base, extras)?;
-    let extras = present_extras(alloc, folder, extras)?;
+    let extras = extras.iter().filter_map(|word| present(folder, word));
+    let extras = extras.collect(alloc)?;
     let ReadSet { set, own_files } = set_of(alloc, folder, &base)?;
     Ok(Reading {
         set,

@@ -1,31 +1,79 @@
-//! Reports of a verify, and their verdict. `report_on` reports each target, numbers the slices that aren't found, and
-//! computes the rank of the surviving recovery slices in them.
-ghost use Rattle.std.specs.Prelude.{◌≡◌, ◌≤◌, ◌<◌, ℕ, List, length, map, filter, not, slice_index, Ok, IfOk};
+//! The report of a verify, and its verdict. `check` reads the set. `report_of` searches for its files and slices,
+//! reports each target, numbers the lost slices, and computes the rank of the surviving recovery slices in them. Only the
+//! slices of incomplete targets without a match are searched for.
+
+ghost use Rattle.std.specs.Prelude.{◌≡◌, ℕ, List, IfOk, Ok, ◌≤◌, ◌<◌, length, map, filter, not, is_none};
 ghost use Rattle.std.specs.BTreeMap.{get};
 ghost use Rattle.std.specs.BTreeSet.{contains};
 ghost use Rattle.std.specs.Cmp.Lexicographic.{slice_cmp};
-ghost use Rattle.std.specs.List.{list_all};
+ghost use Rattle.std.specs.List.{list_all, list_any};
 ghost use Rattle.std.specs.Option.{option_map_or};
-ghost use Rattle.std.specs.Ordering.{nat_cmp};
-ghost use Rattle.par2_spec.specs.Answers.{Lists};
+ghost use Rattle.std.specs.Ordering.{eq_by_cmp, nat_cmp};
+ghost use Rattle.par2_spec.specs.Prelude.{Pair, report_in, verdict_of, IsVerdictIn, RefusedAsReported, Complete, is_complete, incomplete_state, FailsIn, RefusesEarly, verify_of, set_in, Lists, has, bytes_of, survivors, found};
+ghost use Rattle.par2_sets.specs.SetReading.{count_cmp};
+ghost use Rattle.par2_repair.specs.ReportViews.{report_view, state_view, target_report_of};
+ghost use Rattle.par2_repair.specs.Findings.{words, numbers_of_lost, said_of, pairs_sought};
 ghost use Rattle.par2_spec.specs.Folders as folders;
-ghost use Rattle.par2_spec.specs.Folders.{has};
 ghost use Rattle.par2_spec.specs.Rank as ranks;
-ghost use Rattle.par2_spec.specs.Reports.{Complete, is_complete, incomplete_state, verdict_of, report_in, IsVerdictIn};
-ghost use Rattle.par2_spec.specs.Search.{survivors};
-ghost use Rattle.par2_repair.specs.Findings.{numbers_of_lost, pair_cmp, report_by, said_of};
-ghost use Rattle.par2_repair.specs.ReportViews.{state_view, target_report_of, report_view};
 
-use crate::matching::Matches;
-use crate::restored_slices::all_pairs;
+use crate::matching::{Matches, candidates, matches, matches_by_name, unmatched};
+use crate::reading::read;
+use crate::restored::all_pairs;
 use par2_files::{Folder, Name};
 use par2_gf16::Gf;
 use par2_sets::{ParSet, Target};
-use par2_slices::Pair;
+use par2_slices::{Pair, found_windows};
 use par2_solve::{rank_by_equations, rank_by_runs};
-use par2_spec::{Result, Verdict};
+use par2_spec::{Fault, Result, Verdict};
 use std::alloc::Global;
 use std::collections::BTreeSet;
+
+// The report on this set, whose files and slices are searched for in the files of its targets and in the extras. If it
+// is the set of a base, this is the report of that base.
+#[tactic(auto, using(par2_spec::proofs::ListsLaws::std_from_distinct, crate::proofs::RepairParts::distinct_once))]
+fn report_of(alloc: Global, folder: &Folder, set: &ParSet, extras: &[Name]) -> Result<Report>
+    ensures { (base : List ℕ) → set_in folder.now.files base extras.now ≡ Ok set.now →
+        let answer = report_in folder.now.files base extras.now in
+        IfOk result (λ report. answer ≡ Ok (report_view report)) }
+{
+    let candidates = candidates(alloc, folder, set, extras)?;
+    let incomplete = matches(alloc, folder, set, &candidates)?;
+    let unmatched = unmatched(alloc, &incomplete)?;
+    let lost = lost_pairs(alloc, folder, set, &unmatched, &candidates)?;
+    let matches = matches_by_name(alloc, &incomplete)?;
+    let targets = set.targets().iter();
+    let reports = targets.map(|target| target_report(folder, target, &matches, &lost));
+    let targets = reports.collect(alloc)?;
+    let pairs = all_pairs(alloc, set)?;
+    let numbers = lost_numbers(alloc, &pairs, &lost)?;
+    let rank = rank_of(alloc, set, &numbers)?;
+    Ok(Report {
+        set_id: set.id(),
+        targets,
+        lost: numbers.len(),
+        rank,
+    })
+}
+
+/// The report of a verify on the set of a base, whose slices are searched for in the files of its targets and in the
+/// extras. Its verdict is complete if and only if no target is incomplete; else repairable if and only if the surviving
+/// recovery slices determine the lost slices. A repair is refused as not repairable if and only if the verdict is that.
+/// Memory is reported only if an allocation fails.
+#[tactic(auto, using(crate::proofs::Steps::check))]
+pub fn check(alloc: Global, folder: &Folder, base: &str, extras: &[String]) -> Result<Report, Fault>
+    ensures refused { FailsIn (report_in folder.now.files base.now (words extras.now)) result }
+    ensures early { RefusesEarly folder.now.files (verify_of base.now extras.now) result }
+    ensures report { let answer = report_in folder.now.files base.now (words extras.now) in
+        IfOk result (λ report. answer ≡ Ok (report_view report)) }
+    ensures verdict { let is_verdict = IsVerdictIn folder.now.files base.now (words extras.now) in
+        IfOk result (λ report. is_verdict (verdict_of (report_view report))) }
+    ensures repair { let others = words extras.now in
+        let is_refused = RefusedAsReported folder.now.files base.now others in
+        IfOk result (λ report. is_refused (report_view report)) }
+{
+    let reading = read(alloc, folder, base, extras)?;
+    Ok(report_of(alloc, folder, &reading.set, &reading.extras)?)
+}
 
 /// The state of a target.
 #[derive(Drop)]
@@ -111,7 +159,7 @@ fn state_of(folder: &Folder, target: &Target, matches: &Matches) -> State
 
 // How many of the slices with these checksums are found.
 fn count_found(pairs: &[Pair], lost: &BTreeSet<Pair>) -> usize
-    ensures { result ≡ length (filter (λ pair. not (contains pair_cmp lost.now pair)) pairs.now) }
+    ensures { result ≡ length (filter (λ pair. not (contains count_cmp lost.now pair)) pairs.now) }
 {
     pairs.iter().filter(|pair| !lost.contains(*pair)).count()
 }
@@ -123,7 +171,7 @@ fn target_report(
     matches: &Matches,
     lost: &BTreeSet<Pair>,
 ) -> TargetReport
-    ensures { let said = said_of folder.now.files matches.now (contains pair_cmp lost.now) in
+    ensures { let said = said_of folder.now.files matches.now (contains count_cmp lost.now) in
         target_report_of result ≡ said target.now }
 {
     TargetReport {
@@ -134,28 +182,11 @@ fn target_report(
     }
 }
 
-// The report on each target, in order.
-fn target_reports(
-    alloc: Global,
-    folder: &Folder,
-    targets: &[Target],
-    matches: &Matches,
-    lost: &BTreeSet<Pair>,
-) -> Result<Vec<TargetReport>>
-    ensures { let said = said_of folder.now.files matches.now (contains pair_cmp lost.now) in
-        IfOk result (λ list. map target_report_of list.items ≡ map said targets.now) }
-{
-    let reports = targets
-        .iter()
-        .map(|target| target_report(folder, target, matches, lost));
-    reports.collect(alloc)
-}
-
 // The numbers of the lost slices, increasing. They count the slices of the set, which have these checksums, from 0.
 #[tactic(auto, using(crate::proofs::Steps::lost_numbers))]
 fn lost_numbers(alloc: Global, pairs: &[Pair], lost: &BTreeSet<Pair>) -> Result<Vec<u32>>
     requires { length pairs.now ≤ 32768 }
-    ensures { Lists (numbers_of_lost 0 (contains pair_cmp lost.now) pairs.now) result }
+    ensures { Lists (numbers_of_lost 0 (contains count_cmp lost.now) pairs.now) result }
 {
     let mut numbers = Vec::new(alloc);
     for i in 0..pairs.len() {
@@ -177,7 +208,6 @@ fn exponents(alloc: Global, recovery: &[(u32, &[u8])]) -> Result<Vec<u32>>
 // independent. The field's tables are built only if runs of exponents don't determine it.
 #[tactic(auto, using(crate::proofs::Steps::rank_of))]
 fn rank_of(alloc: Global, set: &ParSet, lost: &[u32]) -> Result<usize>
-    requires { (i : ℕ) → slice_index lost.now i < 32768 }
     ensures { IfOk result (λ n. n ≡ ranks.rank lost.now (survivors set.now)) }
 {
     let exponents = exponents(alloc, set.recovery())?;
@@ -187,26 +217,37 @@ fn rank_of(alloc: Global, set: &ParSet, lost: &[u32]) -> Result<usize>
     }
 }
 
-// The report on a set with these matches and lost slices. Memory is its only error.
-pub(crate) fn report_on(
+// The slice checksums of the targets with these names, in the order of the set: those that are searched for.
+fn sought_pairs(alloc: Global, set: &ParSet, names: &BTreeSet<Name>) -> Result<Vec<Pair>>
+    ensures { Lists (pairs_sought (λ t. contains (slice_cmp nat_cmp) names.now t.name)
+        set.now.targets) result }
+{
+    let targets = set.targets().iter();
+    let sought = targets.filter(|target| names.contains(target.name()));
+    sought.flat_map(Target::pairs).copied().collect(alloc)
+}
+
+/// The checksums of those slices of the targets with these names that aren't found in the candidates.
+pub fn lost_pairs(
     alloc: Global,
     folder: &Folder,
     set: &ParSet,
-    matches: &Matches,
-    lost: &BTreeSet<Pair>,
-) -> Result<Report>
-    ensures { let is_lost = contains pair_cmp lost.now in
-        let report = report_by folder.now.files set.now matches.now is_lost in
-        IfOk result (λ said. report_view said ≡ report) }
+    names: &BTreeSet<Name>,
+    candidates: &[Name],
+) -> Result<BTreeSet<Pair>>
+    ensures { let buffers = map (bytes_of folder.now.files) candidates.now in
+        let sought = pairs_sought (λ t. contains (slice_cmp nat_cmp) names.now t.name)
+        set.now.targets in
+        let lost_ones = filter (λ p. is_none (found set.now.slice_size buffers p)) sought in
+        IfOk result (λ lost. (pair : Pair) →
+        contains count_cmp lost pair ≡ list_any (eq_by_cmp count_cmp pair) lost_ones) }
 {
-    let targets = target_reports(alloc, folder, set.targets(), matches, lost)?;
-    let pairs = all_pairs(alloc, set)?;
-    let lost = lost_numbers(alloc, &pairs, lost)?;
-    let rank = rank_of(alloc, set, &lost)?;
-    Ok(Report {
-        set_id: set.id(),
-        targets,
-        lost: lost.len(),
-        rank,
-    })
+    let pairs = sought_pairs(alloc, set, names)?;
+    let buffers = folder.bytes_of_each(candidates)?;
+    let windows = found_windows(alloc, &buffers, set.slice_size(), &pairs)?;
+    let lost = pairs
+        .iter()
+        .zip(&windows)
+        .filter_map(|(pair, window)| window.is_none().then_some(*pair));
+    lost.collect(alloc)
 }

@@ -23,18 +23,11 @@ pub use Rattle.std.specs.Set.{distinct_count, is_member, unique_keys}
 pub use Rattle.std.specs.Str.{bytes_eq}
 pub use Rattle.std.specs.declared.cmp.Ordering.TheVariants.{Equal, Greater, Less}
 pub use Rattle.par2_packets.specs.PacketViews.{packet_view, remaining_packets}
-pub use Rattle.par2_sets.specs.SetReading.{HoldsOwned, long_aside, HasFirsts, HoldChecksums, HoldDescriptions, count_cmp, id_cmp, entry_of, set_exponents, set_recovery, set_view, usable, Returns, are_own, has_own, own_files, packets_in, set_from_packets, set_packets}
-pub use Rattle.par2_spec.proofs.ListsLaws.{filter_map-map}
+pub use Rattle.par2_sets.specs.SetReading.{HoldsOwned, long_aside, HasFirsts, count_cmp, set_exponents, set_recovery, set_view, Returns, are_own, own_files, set_from_packets, set_packets}
+pub use Rattle.par2_spec.proofs.ListsLaws.{filter_map-map, among-append, distinct_from_std, distinct_same, same_either_way, std_from_distinct, err_again, where_none}
 pub use Rattle.par2_spec.proofs.NameTests.{name_is_short, no_name}
-pub use Rattle.par2_spec.proofs.NamesLaws.{among-append, distinct_from_std, distinct_same, same_either_way, std_from_distinct}
-pub use Rattle.par2_spec.proofs.ReadLaws.{distinct_by_length, size_parts, was_some}
-pub use Rattle.par2_spec.proofs.TestLaws.{err_again, where_none}
-pub use Rattle.par2_spec.specs.Folders.{File, Folder, IsFolder, bytes_of, files, names}
-pub use Rattle.par2_spec.specs.Names.{distinct, is_among, is_name, is_par_name, numbered}
-pub use Rattle.par2_spec.specs.Packets.{DescBody, IfscBody, MainBody, Packet, RecoveryBody, accepted, read_desc, read_ifsc, read_main, read_recovery}
-pub use Rattle.par2_spec.specs.Repairs.{is_par_file, taken_for}
-unfoldable pub use Rattle.par2_spec.specs.Repairs.{aside}
-pub use Rattle.par2_spec.specs.Sets.{IsSound, ParSet, Target, all_some, are_in_profile, description_of, is_slice_size, main_of, packets_with, recovery_of, target_names, target_of, ◌>>=◌}
-unfoldable pub use Rattle.par2_spec.specs.Sets.{read_set, set_of}
+pub use Rattle.par2_spec.proofs.SearchLaws.{distinct_by_length, size_parts, was_some}
+pub use Rattle.par2_spec.specs.Prelude.{File, Folder, IsFolder, bytes_of, files, names, distinct, is_among, is_name, is_par_name, numbered, DescBody, IfscBody, MainBody, Packet, RecoveryBody, accepted, read_desc, read_ifsc, read_main, read_recovery, is_par_file, taken_for, IsSound, ParSet, Target, all_some, are_in_profile, description_of, is_slice_size, main_of, packets_with, pairs_of, recovery_of, target_names, target_of, ◌>>=◌}
+unfoldable pub use Rattle.par2_spec.specs.Prelude.{aside, read_set, set_of}
 pub use Rattle.par2_spec.specs.declared.Fault.{Fault}
 pub use Rattle.par2_spec.specs.declared.Fault.TheVariants.{Memory, NameTooLong, NoChecksums, NoDescription, NoPackets}

@@ -1,9 +1,4 @@
 mod Common
-pub mod Lists
-pub mod Names
-pub mod Exponents
-pub mod Firsts
-pub mod Refusals
 pub mod Reading
-mod OwnFiles
-pub mod TakenNames
+pub mod Names
+mod Steps

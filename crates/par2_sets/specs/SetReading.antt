@@ -1,73 +1,35 @@
--- How a set is read: what was read as a set of the definitions, maps that keep the first value of each key, the steps with
--- their faults, and the asides.
-use Rattle.std.specs.Prelude.{ℕ, ◌==◌, ◌&&◌, nat_lt, List, length, map, Option, Some, None, option_and_then, refl, if◌then◌else◌, ◌≡◌, option_map, ◌⊎◌, Bool, [], ◌∷◌, filter, flat_map, Result, Ok, Err, ok_or}
-use Rattle.std.specs.Coded.{Coded, code_by, coded×, coded_ℕ, coded_list}
-use Rattle.std.specs.Borrow.{Bor}
+-- How a set is read: a set's parts as values, maps that keep the first value of each key, the steps with their faults.
+use Rattle.std.specs.Prelude.{ℕ, ◌&&◌, nat_lt, List, length, map, Option, refl, ◌≡◌, ◌⊎◌, Bool, ◌∷◌, filter, flat_map, Result, Ok, Err, ok_or}
+use Rattle.par2_spec.specs.Prelude.{Coded, code_by, coded×, coded_ℕ, coded_list, Bor, FinMap, from_sorted, nat_cmp, eq_by_cmp, ordering_then, Pair, Packet, accepted, ◌>>=◌, ParSet, Target, IsSound, description_of, unless, is_slice_size, main_of, all_some, packets_with, are_in_profile, target_of, recovery_of, other_par_names, IsStrictlyIncreasing, BTreeMap, slice_cmp, lookup, list_all, list_any, bytes_eq, Folder, bytes_of, names, is_par_name, is_among, BTreeSet, contains, fault_where, aside}
 use Rattle.std.specs.FinMap as map_of
-use Rattle.std.specs.FinMap.{FinMap, from_sorted}
-use Rattle.std.specs.Ordering.{nat_cmp, eq_by_cmp, ordering_then}
-use Rattle.par2_spec.specs.Checksums.{Pair}
-use Rattle.par2_spec.specs.Packets.{Packet, RecoveryBody, read_recovery, IfscBody, read_desc, DescBody, accepted}
-use Rattle.par2_spec.specs.Sets.{◌>>=◌, ParSet, Target, IsSound, description_of, pairs_of, unless, is_slice_size, main_of, all_some, packets_with, are_in_profile, target_of, recovery_of, other_par_names}
-use Rattle.std.specs.List.Sorted.{IsStrictlyIncreasing}
-use Rattle.std.specs.BTreeMap.{BTreeMap, get}
-use Rattle.std.specs.Cmp.Lexicographic.{slice_cmp}
-use Rattle.std.specs.Map.{lookup}
+use Rattle.std.specs.BTreeMap.{get}
 use Rattle.std.specs.declared.cmp.Ordering.{Ordering}
-use Rattle.par2_packets.specs.declared.scan.Packet as scan
-use Rattle.std.specs.List.{list_all, list_any}
-use Rattle.std.specs.Str.{bytes_eq}
 use Rattle.par2_spec.specs.declared.Fault.{Fault}
 use Rattle.par2_spec.specs.declared.Fault.TheVariants.{NoMain, BadSet, NoDescription, NoChecksums, Memory, NameTooLong}
-use Rattle.par2_spec.specs.Slices.{slice_count}
-use Rattle.par2_spec.specs.Folders.{Folder, bytes_of, names}
-use Rattle.par2_spec.specs.Names.{is_par_name, is_among}
-use Rattle.std.specs.BTreeSet.{BTreeSet, contains}
-use Rattle.par2_spec.specs.Faults.{fault_where}
-use Rattle.par2_spec.specs.Repairs.{aside}
-
--- an exponent with its recovery slice
-abbrev pub entry_of : ℕ × Bor (List ℕ) → ℕ × List ℕ
-entry_of r = (r.0, r.1.now)
 
 -- exponents with their recovery slices, as values
 abbrev pub set_recovery : List (ℕ × Bor (List ℕ)) → List (ℕ × List ℕ)
-set_recovery recovery = map entry_of recovery
+set_recovery recovery = map (λ r. (r.0, r.1.now)) recovery
 
 -- the exponents alone
 abbrev pub set_exponents : List (ℕ × Bor (List ℕ)) → List ℕ
 set_exponents recovery = map (λ r. r.0) (set_recovery recovery)
 
--- the recovery slice of a packet, if its exponent is below 65,536 and its length is the slice size s (PAR2 2.0,
--- Recovery Slice packet)
-abbrev pub usable : ℕ → Packet → Option RecoveryBody
-usable s p =
-    option_and_then (λ r. if nat_lt r.exponent 65536 && length r.bytes == s then Some r else None)
-    (read_recovery p.kind p.body)
-
 -- the set with these parts
 abbrev pub set_view : List ℕ → ℕ → List Target → List (ℕ × Bor (List ℕ)) → ParSet
-set_view id slice_size targets recovery = record {
-  id = id;
-  slice_size = slice_size;
-  targets = targets;
-  recovery = from_sorted (set_recovery recovery);
-}
+set_view id slice_size targets recovery =
+    record { id = id; slice_size = slice_size; targets = targets; recovery = from_sorted (set_recovery recovery) }
 
 -- the parts of a set that was read: the exponents increase strictly, and the set is sound as `IsSound` says
 pub record IsReadSet (id : List ℕ) (slice_size : ℕ) (targets : List Target) (recovery : List (ℕ × Bor (List ℕ))) : Type 0 where
   pub rising : IsStrictlyIncreasing (set_exponents recovery)
   pub sound : IsSound (set_view id slice_size targets recovery)
 
--- bytes
-abbrev pub bytes_code : Coded (List ℕ)
-bytes_code = coded_list coded_ℕ
-
 -- a target, by its fields
 abbrev pub target_code : Coded Target
 target_code =
     code_by (List ℕ × (ℕ × (List ℕ × List Pair)))
-    (coded× bytes_code (coded× coded_ℕ (coded× bytes_code (coded_list (coded× bytes_code coded_ℕ)))))
+    (coded× (coded_list coded_ℕ) (coded× coded_ℕ (coded× (coded_list coded_ℕ) (coded_list (coded× (coded_list coded_ℕ) coded_ℕ)))))
     (λ t. (t.name, (t.length, (t.md5, t.pairs))))
     (λ p. record { name = p.0; length = p.1.0; md5 = p.1.1.0; pairs = p.1.1.1 })
     (λ _. refl)
@@ -76,63 +38,35 @@ target_code =
 abbrev pub set_code : Coded ParSet
 set_code =
     code_by (List ℕ × (ℕ × (List Target × FinMap nat_cmp (List ℕ))))
-    (coded× bytes_code (coded× coded_ℕ (coded× (coded_list target_code) (map_of.code coded_ℕ bytes_code))))
+    (coded× (coded_list coded_ℕ) (coded× coded_ℕ (coded× (coded_list target_code) (map_of.code coded_ℕ (coded_list coded_ℕ)))))
     (λ s. (s.id, (s.slice_size, (s.targets, s.recovery))))
     (λ p. record { id = p.0; slice_size = p.1.0; targets = p.1.1.0; recovery = p.1.1.1 })
     (λ _. refl)
 
--- the order of File IDs
-abbrev pub id_cmp : List ℕ → List ℕ → Ordering
-id_cmp = slice_cmp nat_cmp
-
--- the order of File IDs with numbers of slices
+-- the order of bytes with numbers: of File IDs with numbers of slices, and of checksums of slices
 abbrev pub count_cmp : List ℕ × ℕ → List ℕ × ℕ → Ordering
-count_cmp a b = ordering_then (id_cmp a.0 b.0) (nat_cmp a.1 b.1)
+count_cmp a b = ordering_then (slice_cmp nat_cmp a.0 b.0) (nat_cmp a.1 b.1)
 
 -- the map has the first value of each key of the entries, and no other keys
 abbrev pub HasFirsts : {K X : Type 0} → (K → K → Ordering) → List (K × X) → BTreeMap K X → Type 0
 HasFirsts {K} R entries firsts = (key : K) → get R firsts key ≡ lookup (eq_by_cmp R key) entries
-
--- the map has the packet of the first description of each File ID
-abbrev pub HoldDescriptions : List Packet → BTreeMap (List ℕ) scan.Packet → Type 0
-HoldDescriptions packets firsts =
-    (id : List ℕ) → option_and_then (λ p. read_desc p.kind p.body.now) (get id_cmp firsts id) ≡ description_of packets id
-
--- the map has the first checksums of each File ID with each number of slices
-abbrev pub HoldChecksums : List Packet → BTreeMap (List ℕ × ℕ) IfscBody → Type 0
-HoldChecksums packets firsts =
-    (id : List ℕ) (n : ℕ) → option_map (λ c. c.pairs) (get count_cmp firsts (id, n)) ≡ pairs_of packets id n
 
 -- a call returns the value of its step, or the step's fault, or that memory ran out
 abbrev pub Returns : {X Y : Type 0} → (X → Y) → Result X Fault → Result Y Fault → Type 0
 Returns view (Ok x) step = step ≡ Ok (view x)
 Returns view (Err fault) step = (fault ≡ Memory) ⊎ (step ≡ Err fault)
 
--- the packets of a set in the base and in these other files, those of the base first
-abbrev pub packets_in : Folder → List ℕ → List (List ℕ) → List ℕ → List Packet
-packets_in folder base others id =
-    packets_with id (flat_map accepted (bytes_of folder base ∷ map (bytes_of folder) others))
-
 -- the packets of a set in the base and in every other `.par2` file
 abbrev pub set_packets : Folder → List ℕ → List ℕ → List Packet
-set_packets folder base id = packets_in folder base (other_par_names folder base) id
+set_packets folder base id = packets_with id (flat_map accepted (bytes_of folder base ∷ map (bytes_of folder) (other_par_names folder base)))
 
 -- there are packets, and all are of the set with this identifier
 abbrev pub are_own : List ℕ → List Packet → Bool
 are_own id packets = list_any (λ p. bytes_eq p.set_id id) packets && list_all (λ p. bytes_eq p.set_id id) packets
 
--- the file of this name has packets, all of the set
-abbrev pub has_own : Folder → List ℕ → List ℕ → Bool
-has_own folder id name = are_own id (accepted (bytes_of folder name))
-
 -- the names of the `.par2` files that have packets of the set alone, in order
 abbrev pub own_files : Folder → List ℕ → List (List ℕ)
-own_files folder id = filter (has_own folder id) (filter is_par_name (names folder))
-
--- the checksums of a file's slices of s bytes, or the fault that there are none
-abbrev pub checksums_for : List Packet → ℕ → DescBody → Result (List Pair) Fault
-checksums_for packets s d =
-    ok_or (if d.length == 0 then Some [] else pairs_of packets d.id (slice_count s d.length)) NoChecksums
+own_files folder id = filter (λ name. are_own id (accepted (bytes_of folder name))) (filter is_par_name (names folder))
 
 -- the set of these packets, which have its identifier, or the fault of the first step that fails
 abbrev pub set_from_packets : List ℕ → List Packet → Result ParSet Fault

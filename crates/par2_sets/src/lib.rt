@@ -1,11 +1,8 @@
 //! The set that the PAR2 packets of a folder describe. `par2_repair` plans by it: it calls `set_of` first, then
 //! `asides` for a repair, and `par_files` for a purge. It searches no slices and repairs nothing: it reads one folder
 //! in memory, and names files.
-#![tactic(auto)]
+#![tactic(auto, using(crate::proofs::Steps::set))]
 
-mod listing;
-mod packets;
 mod set;
 
-pub use listing::{asides, par_files};
-pub use set::{ParSet, ReadSet, Target, set_of};
+pub use set::{ParSet, ReadSet, Target, asides, par_files, set_of};

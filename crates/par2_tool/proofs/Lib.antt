@@ -1,14 +1,3 @@
 mod Common
-mod MadeChanges
-mod VerifyRuns
 mod Openings
-mod Stops
-mod Outcomes
-mod Calls
-mod History
-mod UnreadWords
-mod Statuses
-mod RunEffects
-mod UndoneRuns
-mod RunCalls
-mod Printed
+mod Runs

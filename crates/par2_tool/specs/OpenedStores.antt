@@ -1,42 +1,27 @@
 -- Opening a store: the session that it opens as and what that does to the store, or why it isn't opened. A command on an
 -- opened store: its outcome, its refusals, and how its changes are written.
-use Rattle.std.specs.Prelude.{◌≡◌, ◌⊎◌, ◌<◌, ◌≤◌, ◌+◌, ℕ, List, [], ◌∷◌, length, take, Option, Some, Result, Ok, Err, IfErr, IfOk, IsSomeAnd, IsTrue, OnErr, OnOk, false, true, map, None, Vec, IsErrOf}
-use Rattle.std.specs.Borrow.{Bor}
+use Rattle.std.specs.Prelude.{◌≡◌, ◌⊎◌, ◌<◌, ◌≤◌, ◌+◌, ℕ, List, [], ◌∷◌, length, take, map, Option, Some, None, Result, Ok, Err, IfErr, IfOk, IsSomeAnd, IsTrue, OnErr, OnOk, IsErrOf, Vec, false, true}
 use Rattle.std.specs.declared.alloc.Global.{Global}
-use Rattle.par2_spec.specs.Changes.{Change, are_applicable, effects}
-use Rattle.par2_spec.specs.Commands.{Action, Do, Verify, Undo, Redo}
-use Rattle.par2_spec.specs.Folders.{Folder}
-use Rattle.par2_spec.specs.Journals.{Spells}
-use Rattle.par2_spec.specs.Opening.{Started, OpensAs, Opens, Halfway, FingerprintsDiffer, settled_journal}
-use Rattle.par2_spec.specs.Sessions.{Session, session_of_kept, KeptSession, OnlyGrew, changes_requested, session_after}
-use Rattle.par2_spec.specs.Stores.{Contents, with_change, with_journal}
-use Rattle.par2_spec.specs.Views.{command_of}
+use Rattle.par2_spec.specs.Prelude.{Bor, Change, are_applicable, effects, Action, Do, Verify, Undo, Redo, Folder, Spells, Started, OpensAs, Opens, Halfway, FingerprintsDiffer, settled_journal, Session, session_of_kept, KeptSession, OnlyGrew, changes_requested, session_after, Contents, with_change, with_journal, command_of, LeadsToAfterRequested, early_refusal_of, Report, report_in, Outcome, Reported, Done, step_of}
 use Rattle.par2_spec.specs.declared.Failure.{Failure}
 use Rattle.par2_spec.specs.declared.Failure.TheVariants as failure
+use Rattle.par2_spec.specs.declared.Fault.{Fault}
 use Rattle.par2_spec.specs.declared.Fault.TheVariants as reason
 use Rattle.par2_spec.specs.declared.commands.Command.{Command}
 use Rattle.par2_spec.specs.declared.JournalFault.{JournalFault}
 use Rattle.par2_spec.specs.declared.JournalFault.TheVariants as journal
 use Rattle.par2_spec.specs.declared.Version.TheVariants.{Two}
-use Rattle.par2_spec.specs.Plans.{LeadsToAfterRequested}
-use Rattle.par2_spec.specs.Refusals.{early_refusal_of}
-use Rattle.par2_spec.specs.Reports.{Report, report_in}
-use Rattle.par2_spec.specs.Output.{Outcome, Reported, Done, step_of}
-use Rattle.par2_spec.specs.declared.Fault.{Fault}
-use Rattle.par2_disk.specs.Cuts.{IsDurable}
-use Rattle.par2_disk.specs.declared.store.ReadFault.{ReadFault}
-use Rattle.par2_disk.specs.declared.store.ReadFault.TheVariants as read
-use Rattle.par2_disk.specs.declared.view.Store.{Ghosts as StoreOf}
-use Rattle.par2_disk.specs.Stores.{CountsFailures}
+use Rattle.par2_disk.specs.Stores.{IsDurable}
+use Rattle.par2_disk.specs.declared.store.Store.{Ghosts as StoreOf}
 use Rattle.par2_disk.specs.declared.store.StoreFault.{StoreFault}
-use Rattle.par2_files.specs.ChangeViews.{change_of}
+use Rattle.par2_files.specs.Folders.{change_of}
 use Rattle.par2_files.specs.declared.change.Change as written
 use Rattle.par2_repair.specs.ReportViews.{report_view}
 use Rattle.par2_journal.specs.Commands.{IsAfter, LeadsFrom}
 use Rattle.par2_journal.specs.SessionRefusals.{MayRefuse}
-use Rattle.par2_journal.specs.declared.preparation.SessionFault.{SessionFault}
-use Rattle.par2_journal.specs.declared.preparation.SessionFault.TheVariants.{Plan, NothingToUndo, NothingToRedo}
-use Rattle.par2_journal.specs.declared.spelling.Journals.{Journals}
+use Rattle.par2_journal.specs.declared.commands.SessionFault.{SessionFault}
+use Rattle.par2_journal.specs.declared.commands.SessionFault.TheVariants.{Plan, NothingToUndo, NothingToRedo}
+use Rattle.par2_journal.specs.declared.commands.Journals.{Journals}
 use Rattle.par2_tool.specs.declared.opening.OpenFault.{OpenFault}
 use Rattle.par2_tool.specs.declared.opening.OpenFault.TheVariants.{Store, Memory, JournalInvalid, FolderChanged}
 use Rattle.par2_tool.specs.declared.opening.Started as program
@@ -88,10 +73,6 @@ AreSomeWritten old changes new = (n : ℕ) × (n ≤ length changes) × (new ≡
 abbrev pub ContentsAreDurable : {S : Type 0} → StoreOf S → S → Type 0
 ContentsAreDurable store it = IsDurable (store.crash_states it) (store.contents it)
 
--- contents that are durable before a call are durable after it
-abbrev pub StaysKept : {S T E : Type 0} → StoreOf S → S → S → Result T E → Type 0
-StaysKept store old new result = store.honest old → ContentsAreDurable store old → OnOk result (ContentsAreDurable store new)
-
 -- at most `calls` were made, by the count before and after
 pub record AreAtMost (calls before after : ℕ) : Type 0 where
   pub later : before ≤ after
@@ -107,13 +88,11 @@ pub record IsHalfway (contents : Contents) (session : Session) (back : List Chan
 
 -- different folders that a halfway command passes through while it is taken back have different fingerprints
 abbrev pub FingerprintsDifferBack : Contents → Type 0
-FingerprintsDifferBack contents =
-    (session : Session) (back : List Change) → IsHalfway contents session back → FingerprintsDiffer contents.files back
+FingerprintsDifferBack contents = (session : Session) (back : List Change) → IsHalfway contents session back → FingerprintsDiffer contents.files back
 
 -- it was taken back: the changes that lead back are made, and the journal is that of the session before it
 abbrev pub IsTakenBack : Session → List Change → Contents → Contents → Type 0
-IsTakenBack session back old new =
-    (bytes : List ℕ) × Spells bytes (settled_journal Two session) × (new ≡ with_journal (with_all_changes old back) bytes)
+IsTakenBack session back old new = (bytes : List ℕ) × Spells bytes (settled_journal Two session) × (new ≡ with_journal (with_all_changes old back) bytes)
 
 -- a stop on the way back: some of the changes are made, or everything is done
 abbrev pub IsStillHalfway : Session → List Change → Contents → Contents → Type 0
@@ -121,8 +100,7 @@ IsStillHalfway session back old new = AreSomeWritten old back new ⊎ IsTakenBac
 
 -- nothing is done to the store, or its halfway command is taken back
 abbrev pub OnlyTakesBack : Contents → Contents → Type 0
-OnlyTakesBack old new =
-    (new ≡ old) ⊎ ((session : Session) × (back : List Change) × IsHalfway old session back × IsTakenBack session back old new)
+OnlyTakesBack old new = (new ≡ old) ⊎ ((session : Session) × (back : List Change) × IsHalfway old session back × IsTakenBack session back old new)
 
 -- ---- an opened store
 
@@ -171,11 +149,6 @@ IsUnopened old new FolderChanged = IsOpening old (Err (journal.FolderChanged tru
 IsUnopened old new Memory = new ≡ old
 IsUnopened old new Store = Unit {0}
 
--- the fault of an opening whose reading failed
-abbrev pub open_fault_of : ReadFault → OpenFault
-open_fault_of read.Store = Store
-open_fault_of read.Memory = Memory
-
 -- the fault of an opening whose journal is refused
 abbrev pub refused_as : JournalFault → OpenFault
 refused_as journal.JournalInvalid = JournalInvalid
@@ -201,13 +174,12 @@ pub record CountsCalls {T E : Type 0} (report : E → Failure) (calls before aft
 
 -- the writing calls of an opening: none; or, to take a command back, one for each change and one for the journal
 abbrev pub AreCallsToOpen : Contents → ℕ → Type 0
-AreCallsToOpen contents calls =
-    (calls ≡ 0) ⊎ ((session : Session) × (back : List Change) × IsHalfway contents session back × (calls ≡ length back + 1))
+AreCallsToOpen contents calls = (calls ≡ 0) ⊎ ((session : Session) × (back : List Change) × IsHalfway contents session back × (calls ≡ length back + 1))
 
 -- a call on any store: it stays honest, what was durable stays so, and only a failure of the store is counted
 pub record KeepsStore {S T E : Type 0} (store : StoreOf S) (report : E → Failure) (old new : S) (result : Result T E) : Type 0 where
   pub honest : store.honest old → store.honest new
-  pub kept : StaysKept store old new result
+  pub kept : store.honest old → ContentsAreDurable store old → OnOk result (ContentsAreDurable store new)
   pub later : store.failures old ≤ store.failures new
   pub counted : IfErr result (λ fault. IsCounted (store.failures old < store.failures new) (store.failures old) (store.failures new) (report fault))
   pub steady : OnOk result (store.failures new ≡ store.failures old)
@@ -238,10 +210,8 @@ outcome_of (outcome.Done steps) = Done steps
 
 -- the outcome of an accepted action on a session: a verify's report on its folder, or the steps of the changes
 abbrev pub IsAnswer : Session → Action → Outcome → Type 0
-IsAnswer session (Do (Verify base extras)) outcome =
-    (report : Report) × (report_in session.folder base extras ≡ Ok report) × (outcome ≡ Reported report)
-IsAnswer session action outcome =
-    (changes : List Change) × (changes_requested session action ≡ Ok changes) × (outcome ≡ Done (map step_of changes))
+IsAnswer session (Do (Verify base extras)) outcome = (report : Report) × (report_in session.folder base extras ≡ Ok report) × (outcome ≡ Reported report)
+IsAnswer session action outcome = (changes : List Change) × (changes_requested session action ≡ Ok changes) × (outcome ≡ Done (map step_of changes))
 
 -- an action is accepted: the session becomes the one after it, its changes lead to its folder, and the outcome is its own
 pub record IsPerformed (action : Action) (old new : KeptSession) (outcome : performing.Outcome) : Type 0 where
@@ -285,8 +255,18 @@ pub record HoldsAfter (session : Session) (action : Action) (new : Contents) : T
 
 -- nothing was done, or the store opens as the session before the action, or holds the one after it
 abbrev pub OpensAsBeforeOrAfter : Session → Action → Contents → Contents → Type 0
-OpensAsBeforeOrAfter session action old new =
-    (new ≡ old) ⊎ (IsOpening new (Ok (with_history session)) ⊎ HoldsAfter session action new)
+OpensAsBeforeOrAfter session action old new = (new ≡ old) ⊎ (IsOpening new (Ok (with_history session)) ⊎ HoldsAfter session action new)
+
+-- the calls for the requested changes: one for each, and one for each journal: two, or one if there are no changes
+abbrev pub calls_unless : {F : Type 0} → Result (List Change) F → ℕ
+calls_unless (Ok []) = 1
+calls_unless (Ok changes) = length changes + 2
+calls_unless (Err refusal) = 0
+
+-- the calls of an action once the store is opened: none for a verify or a refused action
+abbrev pub calls_requested : Session → Action → ℕ
+calls_requested session (Do (Verify base extras)) = 0
+calls_requested session action = calls_unless (changes_requested session action)
 
 -- the store is honest, and its folder is the session's
 pub record IsOn {S : Type 0} (store : StoreOf S) (it : S) (session : KeptSession) : Type 0 where
@@ -303,17 +283,17 @@ pub record ActsOn {S T : Type 0} (store : StoreOf S) (command : Command) (old ne
   pub cut : IsOn store old before → ContentsAreDurable store old → FingerprintsDifferAlong (session_of_kept before) (command_of command) → (left : Contents) → store.crash_states new left → OpensAsBeforeOrAfter (session_of_kept before) (command_of command) (store.contents old) left
   pub in_order : store.honest old → OnErr result (IfOk (changes_requested (session_of_kept before) (command_of command)) (λ changes. (n : ℕ) × ((store.contents new).files ≡ effects (store.contents old).files (take n changes))))
   pub possible : IsOn store old before → store.impossible new ≡ store.impossible old
+  pub calls : CountsCalls failure_for (calls_requested (session_of_kept before) (command_of command)) (store.writing_calls old) (store.writing_calls new) result
 
 -- ---- how changes are written between two journals
 
 -- `number` writing calls lead to these contents, and none is impossible if these changes apply. A failure or a power cut
 -- leaves some contents in between
 pub record WritesInOrder {S : Type 0} (store : StoreOf S) (old new : S) (after : Contents) (IsBetween : Contents → Type 0) (changes : List Change) (number : ℕ) (result : Result (Unit {0}) StoreFault) : Type 0 where
-  pub honest : store.honest old → store.honest new
+  pub keeps : KeepsStore store (λ _. failure.Store) old new result
   pub done : store.honest old → OnOk result (store.contents new ≡ after)
   pub stopped : store.honest old → OnErr result (IsBetween (store.contents new))
   pub remains : store.honest old → ContentsAreDurable store old → (left : Contents) → store.crash_states new left → IsBetween left
-  pub failures : CountsFailures store.failures old new result
   pub possible : store.honest old → IsTrue (are_applicable (store.contents old).files changes) → store.impossible new ≡ store.impossible old
   pub calls : CountsCalls (λ _. failure.Store) number (store.writing_calls old) (store.writing_calls new) result
 
@@ -347,14 +327,3 @@ abbrev pub WritesDown : {S : Type 0} → StoreOf S → S → S → Journals → 
 WritesDown store old new journals changes result =
     let contents = store.contents old in let all = map change_of changes in
     WritesInOrder store old new (after_write_down contents journals all) (IsStoppedAt contents journals all) all (calls_before journals.halfway + (length changes + 1)) result
-
--- the calls for the requested changes: one for each, and one for each journal: two, or one if there are no changes
-abbrev pub calls_unless : {F : Type 0} → Result (List Change) F → ℕ
-calls_unless (Ok []) = 1
-calls_unless (Ok changes) = length changes + 2
-calls_unless (Err refusal) = 0
-
--- the calls of an action once the store is opened: none for a verify or a refused action
-abbrev pub calls_requested : Session → Action → ℕ
-calls_requested session (Do (Verify base extras)) = 0
-calls_requested session action = calls_unless (changes_requested session action)

@@ -1,38 +1,22 @@
 -- A whole run: what its words ask for, what it prints and returns, and its effect on the store; and runs on one store.
-use Rattle.std.specs.List.{AllByRecursion}
 use Rattle.std.specs.Prelude.{◌≡◌, ◌≢◌, ◌⊎◌, ◌<◌, ◌+◌, ℕ, Bool, List, [], ◌∷◌, length, map, replicate, Option, Some, Ok, Err, String, string_bytes, true}
 use Rattle.std.specs.declared.alloc.Global.{Global}
 use Rattle.std.specs.declared.io.ErrorKind.{ErrorKind}
 use Rattle.std.specs.declared.io.ErrorKind.TheVariants as kind
-use Rattle.clap.specs.Words.{Text, fault_of, takes}
-use Rattle.par2_spec.specs.Changes.{Change}
-use Rattle.par2_spec.specs.Commands.{Action, CreateArgs, Do, Repair, Undo, Verify}
-use Rattle.par2_spec.specs.Folders.{File, Folder}
+use Rattle.clap.specs.Words.{Text, takes}
+use Rattle.par2_spec.specs.Prelude.{AllByRecursion, Change, Action, CreateArgs, Do, Verify, Repair, Undo, File, Folder, Started, Session, changes_requested, history_after, history_of, session_after, Contents, HasFiles, KeepsFiles, OthersAgree, FollowsCreate, HaveAChoice, IsTrueTo, TookPart, LeadsToAfterRequested, Outcome, output_of, error_of, status_of, status_of_failure}
 use Rattle.par2_spec.specs.History as history
-use Rattle.par2_spec.specs.Opening.{Started}
-use Rattle.par2_spec.specs.Output.{Outcome, output_of, error_of, status_of, status_of_failure}
-use Rattle.par2_spec.specs.Plans.{LeadsToAfterRequested}
-use Rattle.par2_spec.specs.Sessions.{Session, changes_requested, history_of, session_after}
-use Rattle.par2_spec.specs.Stores.{Contents}
 use Rattle.par2_spec.specs.declared.Failure.{Failure}
 use Rattle.par2_spec.specs.declared.Failure.TheVariants as failure
-use Rattle.par2_spec.specs.declared.Fault.TheVariants as fault
+use Rattle.par2_spec.specs.declared.Fault.TheVariants as reason
 use Rattle.par2_spec.specs.declared.JournalFault.TheVariants as journal
-use Rattle.par2_spec.specs.RepairLaws.{HasFiles, KeepsFiles, OthersAgree}
-use Rattle.par2_spec.specs.Damage.{FollowsCreate, HaveAChoice}
-use Rattle.par2_spec.specs.Premises.{IsTrueTo}
-use Rattle.par2_arguments.specs.Definition.{par2_app}
-use Rattle.par2_arguments.specs.Meanings.{requested_by}
-use Rattle.par2_disk.specs.declared.view.Store.{Ghosts as StoreOf}
-use Rattle.par2_output.specs.PrintedValues.{words_requested}
-use Rattle.par2_output.specs.PrinterStates.{IsFlushed, PrinterTookAll, TookInVain, PrinterTookPart}
+use Rattle.par2_arguments.specs.Definition.{AskFor, par2_app, requested_by}
+use Rattle.par2_disk.specs.declared.store.Store.{Ghosts as StoreOf}
+use Rattle.par2_journal.specs.declared.commands.SessionFault.TheVariants.{NothingToUndo, NothingToRedo}
+use Rattle.par2_output.specs.Printing.{words_requested, PrinterTookAll, TookInVain, seen}
 use Rattle.par2_output.specs.declared.printer.Printer.{Printer}
-use Rattle.par2_tool.specs.OpenedStores.{IsOpening, IsOpened, IsHalfway, IsSettled, OnlyTakesBack, ContentsAreDurable, with_history, AreAtMost, AreCallsToOpen, FingerprintsDifferBack, IsCounted, IsAnswer, IsWritten, HoldsAfter, FingerprintsDifferAlong, calls_requested}
-
--- the words request this action, and clap finds no fault with them
-pub record AskFor (words : List Text) (action : Action) : Type 0 where
-  pub requested : requested_by words ≡ Some action
-  pub faultless : fault_of par2_app words ≡ []
+use Rattle.par2_tool.specs.declared.opening.OpenFault.TheVariants.{Store, Memory, JournalInvalid, FolderChanged}
+use Rattle.par2_tool.specs.OpenedStores.{IsOpening, IsSettled, with_history, ContentsAreDurable, AreAtMost, IsHalfway, FingerprintsDifferBack, OnlyTakesBack, IsOpened, IsCounted, AreCallsToOpen, IsAnswer, IsWritten, FingerprintsDifferAlong, HoldsAfter, calls_requested}
 
 -- the words request a repair of this base with these extra files, and a store with these contents opens on the folder
 pub record AskForRepair (words : List (List ℕ)) (contents : Contents) (folder : Folder) (base : List ℕ) (extras : List (List ℕ)) : Type 0 where
@@ -44,34 +28,30 @@ pub record AskForRepair (words : List (List ℕ)) (contents : Contents) (folder 
 
 -- the words are no command line, which clap takes and which requests an action; or memory ran out
 abbrev pub IsUnread : List Text → Failure → Type 0
-IsUnread words reason =
-    ((reason ≡ failure.Arguments) × (takes par2_app words ≡ true → (action : Action) → requested_by words ≡ Some action → ⊥)) ⊎ (reason ≡ failure.Refused fault.Memory)
+IsUnread words why =
+    ((why ≡ failure.Arguments) × (takes par2_app words ≡ true → (action : Action) → requested_by words ≡ Some action → ⊥)) ⊎ (why ≡ failure.Refused reason.Memory)
 
 -- the failure if the runtime can't pass the words on, by the kind of its error
 unfoldable pub failure_of_kind : ErrorKind → Failure
-failure_of_kind kind.OutOfMemory = failure.Refused fault.Memory
+failure_of_kind kind.OutOfMemory = failure.Refused reason.Memory
 failure_of_kind _ = failure.Arguments
 
--- the store was opened, and the action had this outcome on the session that it opens as, and its effect on the store
+-- the store was opened, then has the contents `between`, and the action had this outcome on the session that it opens as;
+-- its changes apply in order and lead to its folder, and it had its effect on the store
 pub record IsDone (action : Action) (old new : Contents) (dropped : Bool) (outcome : Outcome) : Type 0 where
   pub session : Session
-  -- the contents after the opening
   pub between : Contents
   pub opened : IsOpened old between (record { session = session; dropped = dropped })
   pub answer : IsAnswer session action outcome
   pub after : Session
   pub accepted : session_after session action ≡ Ok after
-  -- the changes of a command apply in order and lead to its folder
   pub leads : LeadsToAfterRequested session.folder action
   pub written : IsWritten action after between new
 
 -- its writing calls: the opening's, and the action's on the session that the store opens as
-pub record AreCallsToRun (action : Action) (contents : Contents) (calls : ℕ) : Type 0 where
-  pub opening : ℕ
-  pub opens_by : AreCallsToOpen contents opening
-  pub started : Started
-  pub opens : IsOpening contents (Ok started)
-  pub sum : calls ≡ opening + calls_requested started.session action
+abbrev pub AreCallsToRun : Action → Contents → ℕ → Type 0
+AreCallsToRun action contents calls =
+    (opening : ℕ) × AreCallsToOpen contents opening × (started : Started) × IsOpening contents (Ok started) × (calls ≡ opening + calls_requested started.session action)
 
 -- the store was opened so, and the action is refused on this session
 abbrev pub IsRefusedFor : Action → Contents → Contents → history.Refusal → Started → Type 0
@@ -94,12 +74,17 @@ IsStopped action old new =
     → (new ≡ old) ⊎ ((started : Started) × IsOpening old (Ok started)
     × (IsOpening new (Ok started) ⊎ (IsOpening new (Ok (with_history started.session)) ⊎ HoldsAfter started.session action new)))
 
+-- whatever a power cut leaves of an honest store whose contents were durable is a stopped run of the action
+abbrev pub LeavesStopped : {S : Type 0} → StoreOf S → Action → S → S → Type 0
+LeavesStopped store action old new =
+    store.honest old → ContentsAreDurable store old → (left : Contents) → store.crash_states new left → IsStopped action (store.contents old) left
+
 -- it is refused because memory ran out or for the cause that par2_spec names, or the store failed. FolderChanged: a
 -- command was left halfway in another folder, or an undo or redo is requested although the history was dropped
 abbrev pub IsFailed : Action → Contents → Contents → Failure → Type 0
-IsFailed action old new (failure.Refused reason) =
-    ((reason ≡ fault.Memory) × ((new ≡ old) ⊎ ((started : Started) × IsOpened old new started)))
-    ⊎ ((started : Started) × IsRefusedFor action old new (history.Refused reason) started)
+IsFailed action old new (failure.Refused why) =
+    ((why ≡ reason.Memory) × ((new ≡ old) ⊎ ((started : Started) × IsOpened old new started)))
+    ⊎ ((started : Started) × IsRefusedFor action old new (history.Refused why) started)
 IsFailed action old new failure.NothingToUndo = (session : Session) × IsRefusedFor action old new history.NothingToUndo (with_history session)
 IsFailed action old new failure.NothingToRedo = (session : Session) × IsRefusedFor action old new history.NothingToRedo (with_history session)
 IsFailed action old new failure.Store = IsStopped action old new
@@ -124,7 +109,7 @@ pub data RunResult : Type 0 where
 
 -- why an action fails, whatever the store does: memory; the cause that par2_spec names, on some session; journal or store
 abbrev pub IsCause : Action → Failure → Type 0
-IsCause action (failure.Refused reason) = (reason ≡ fault.Memory) ⊎ ((session : Session) × (changes_requested session action ≡ Err (history.Refused reason)))
+IsCause action (failure.Refused why) = (why ≡ reason.Memory) ⊎ ((session : Session) × (changes_requested session action ≡ Err (history.Refused why)))
 IsCause action failure.NothingToUndo = (session : Session) × (changes_requested session action ≡ Err history.NothingToUndo)
 IsCause action failure.NothingToRedo = (session : Session) × (changes_requested session action ≡ Err history.NothingToRedo)
 IsCause action failure.Arguments = ⊥
@@ -143,18 +128,19 @@ IsResult store action old new (Failed spoken reason) =
     × (store.honest old → IsFailed action (store.contents old) (store.contents new) reason
     × CountsFailedRun action (store.contents old) (store.writing_calls old) (store.writing_calls new) reason)
 
--- the result of a run: that of the requested action; or why the words aren't read, and nothing is done to the store
+-- the result of a run: that of the requested action, also if the power is cut; or why the words aren't read, and nothing
+-- is done to the store
 abbrev pub IsRunResult : {S : Type 0} → StoreOf S → List Text → S → S → RunResult → Type 0
 IsRunResult store words old new result =
-    ((action : Action) × AskFor words action × IsResult store action old new result)
+    ((action : Action) × AskFor words action × IsResult store action old new result × LeavesStopped store action old new)
     ⊎ ((reason : Failure) × (result ≡ Failed [] reason) × IsUnread words reason × (new ≡ old))
 
 -- the bytes were written and flushed, and the status is the command's own; or the status is 6 because the writer
 -- failed, which is counted: it took a proper prefix of the bytes, or all of them and couldn't be flushed
 abbrev pub IsPrinted : {W : Type 0} → (W → Option (List ℕ)) → Printer W → Printer W → List ℕ → ℕ → ℕ → Type 0
 IsPrinted held old new bytes own status =
-    (PrinterTookAll held old new bytes × IsFlushed new × (status ≡ own))
-    ⊎ ((PrinterTookPart held old new bytes ⊎ TookInVain held old new bytes) × (status ≡ 6))
+    (PrinterTookAll held old new bytes × (new.is_flushed ≡ true) × (status ≡ own))
+    ⊎ ((TookPart (seen held old) (seen held new) bytes ⊎ TookInVain held old new bytes) × (status ≡ 6))
 
 -- an outcome is printed on the output, a failure on the error writer; the other printer is as it was
 abbrev pub IsShown : {O E : Type 0} → RunResult → (O → Option (List ℕ)) → Printer O → Printer O → (E → Option (List ℕ)) → Printer E → Printer E → ℕ → Type 0
@@ -179,9 +165,7 @@ TakesEffect action old new =
 
 -- a run has no effect: it does nothing to the store, or leaves one that opens as the same session as before
 abbrev pub HasNoEffect : Contents → Contents → Type 0
-HasNoEffect old new =
-    (new ≡ old)
-    ⊎ ((started left : Started) × IsOpening old (Ok started) × IsOpening new (Ok left) × (left.session ≡ started.session))
+HasNoEffect old new = (new ≡ old) ⊎ ((started left : Started) × IsOpening old (Ok started) × IsOpening new (Ok left) × (left.session ≡ started.session))
 
 -- runs of the requested actions lead from one contents to the other; those in `done`, in order, take effect, and no others
 pub data Runs : Contents → List Action → List Action → Contents → Type 0 where
@@ -189,21 +173,18 @@ pub data Runs : Contents → List Action → List Action → Contents → Type 0
   Effective : {k next end : Contents} {action : Action} {requested done : List Action} → TakesEffect action k next → Runs next requested done end → Runs k (action ∷ requested) (action ∷ done) end
   Passed : {k next end : Contents} {action : Action} {requested done : List Action} → HasNoEffect k next → Runs next requested done end → Runs k (action ∷ requested) done end
 
--- the store is one undo away from the folder: creates, repairs and purges led on from it, and all of them but the first
--- are undone. Runs between them may have been refused, have failed, or have been stopped without effect
+-- the store is one undo away from the folder: a first store opens on it, creates, repairs and purges led on from there,
+-- and all of them but the first are undone. Runs between them may have been refused, have failed, or have been stopped without effect
 pub record IsOneUndoFrom (folder : Folder) (store : Contents) : Type 0 where
-  -- the first store opens on the folder
   pub first : Contents
   pub started : Started
   pub opens : IsOpening first (Ok started)
   pub on : started.session.folder ≡ folder
-  -- commands were done
   pub requested : List Action
   pub done : List Action
   pub mid : Contents
   pub commands : Runs first requested done mid
   pub changing : AllByRecursion history.IsChanging done
-  -- and all of them but the first are undone
   pub undone : ℕ
   pub left : length done ≡ undone + 1
   pub more : List Action
@@ -215,18 +196,18 @@ pub record IsOneUndoFrom (folder : Folder) (store : Contents) : Type 0 where
 abbrev pub OpensInOneWay : Type 0
 OpensInOneWay = (contents : Contents) (a b : Started) → IsOpening contents (Ok a) → IsOpening contents (Ok b) → a ≡ b
 
--- runs on one store have the history of one session that does the actions that take effect
-abbrev pub KeepOneHistory : Type 0
-KeepOneHistory =
-    (old new : Contents) (started : Started) (requested done : List Action) → IsOpening old (Ok started) → Runs old requested done new
-    → (end : Started) × history.Execution (history_of started.session) done (length done) (history_of end.session) × IsOpening new (Ok end)
+-- runs on one store have the history of one session that does the actions that take effect. It refuses an action that a
+-- run is refused, and after a run that takes effect no command is halfway
+pub record KeepOneHistory : Type 0 where
+  pub kept : (old new : Contents) (started : Started) (requested done : List Action) → IsOpening old (Ok started) → Runs old requested done new → (end : Started) × history.Execution (history_of started.session) done (length done) (history_of end.session) × IsOpening new (Ok end)
+  pub refused : (old new : Contents) (started : Started) (action : Action) (refusal : history.Refusal) → IsOpening old (Ok started) → (opened : Started) × IsRefusedFor action old new refusal opened → history_after (history_of started.session) action ≡ Err refusal
+  pub settled : (old new : Contents) (action : Action) → TakesEffect action old new → IsSettled new
 
--- after commands that took effect and as many undos, a store opens on the folder from before, with the same older ones
-abbrev pub LeadBackAsOpened : Type 0
-LeadBackAsOpened =
-    (old mid new : Contents) (started : Started) (requested done more : List Action) → IsOpening old (Ok started) → Runs old requested done mid
-    → AllByRecursion history.IsChanging done → Runs mid more (replicate (length done) Undo) new
-    → (end : Started) × IsOpening new (Ok end) × (history.folders (history_of end.session) ≡ history.folders (history_of started.session))
+-- after commands that took effect and as many undos, a store opens on the folder from before, with the same older ones. Its
+-- files are those from before, if no command was halfway then or is now
+pub record LeadBack : Type 0 where
+  pub opens : (old mid new : Contents) (started : Started) (requested done more : List Action) → IsOpening old (Ok started) → Runs old requested done mid → AllByRecursion history.IsChanging done → Runs mid more (replicate (length done) Undo) new → (end : Started) × IsOpening new (Ok end) × (history.folders (history_of end.session) ≡ history.folders (history_of started.session))
+  pub files : (old mid new : Contents) (requested done more : List Action) → IsSettled old → Runs old requested done mid → AllByRecursion history.IsChanging done → Runs mid more (replicate (length done) Undo) new → IsSettled new → new.files ≡ old.files
 
 -- ---- what a run on an honest store achieves, by its words and the status that it returns
 

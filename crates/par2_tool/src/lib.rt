@@ -4,15 +4,13 @@
 #![tactic(auto)]
 
 mod headline;
-mod laws;
 mod opening;
 mod performing;
 mod printing;
-mod running;
-mod writing;
 
-pub use headline::{run, start};
-pub use laws::{runs_keep_one_history, stores_open_in_one_way, undone_runs_lead_back};
+pub use headline::{
+    run, runs_keep_one_history, start, stores_open_in_one_way, undone_runs_lead_back,
+};
 pub use opening::{OpenFault, Started, open_store};
 pub use par2_arguments::{WordsFault, read_words};
 pub use par2_journal::{Report, Session, SessionFault, State, Step, Steps, TargetReport};

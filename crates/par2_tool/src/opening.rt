@@ -1,14 +1,13 @@
 //! Opening a store as a session. `open_for` reads folder and journal (`read_store`) and opens both (`open_with`), which
 //! drops the history of a changed folder (`without_journal`) or takes back a halfway command in the store
 //! (`take_back`).
-ghost use Rattle.std.specs.Prelude.{◌≡◌, Err, IfErr, IfOk, Ok, Some, option_map, true};
+ghost use Rattle.std.specs.Prelude.{◌≡◌, Err, IfErr, IfOk, IsErr, Ok, Some, option_map, true};
 ghost use Rattle.par2_journal.specs.Opening.{OpensAsIs, session_before, way_left};
-ghost use Rattle.par2_spec.specs.Opening.{new_session, started};
-ghost use Rattle.par2_spec.specs.Sessions.{session_of_kept};
+ghost use Rattle.par2_spec.specs.Prelude.{new_session, started, session_of_kept};
 ghost use Rattle.par2_disk.specs.Stores.{OnlyReads};
-ghost use Rattle.par2_tool.specs.OpenedStores.{IsUnopened, IsVerifyGiven, KeepsStore, OpensFor, OpensStore, Starts, TakesWayBack, WasRead, refused_as, started_of, unopened_as, with_history};
+ghost use Rattle.par2_tool.specs.OpenedStores.{IsUnopened, IsVerifyGiven, KeepsStore, OpensFor, OpensStore, Starts, TakesWayBack, WasRead, refused_as, started_of, unopened_as};
 
-use crate::writing::write_down;
+use crate::performing::write_down;
 use par2_disk::{FolderStore, ReadFault, read_folder};
 use par2_files::Folder;
 use par2_journal::{Halfway, Journals, Next, Opened, Session, opens_as_is};
@@ -52,9 +51,10 @@ impl From<AllocError> for OpenFault {
 
 impl From<ReadFault> for OpenFault {
     ghost use Rattle.std.specs.Prelude.{◌≡◌};
-    ghost use Rattle.par2_tool.specs.OpenedStores.{open_fault_of};
+    ghost use Rattle.par2_disk.specs.declared.store.ReadFault.TheVariants as read;
+    ghost use Rattle.par2_tool.specs.declared.opening.OpenFault.TheVariants.{Memory, Store};
 
-    ghost from_gives = { λ fault unopened. unopened ≡ open_fault_of fault };
+    ghost from_gives = { λ e f. (e ≡ read.Store → f ≡ Store) × (e ≡ read.Memory → f ≡ Memory) };
 
     // For `?` after a reading call of the store.
     fn from(fault: ReadFault) -> Self {
@@ -82,14 +82,13 @@ impl From<OpenFault> for Failure {
     }
 }
 
-// The opened store if it has no journal, or if a verify needs none: a new session on the folder, and no history
-// dropped.
-fn without_history(alloc: Global, folder: Folder) -> Started
-    ensures { started_of result ≡ with_history (new_session folder.files) }
+// A new session on the folder, whose history was dropped or never there.
+fn without_history(alloc: Global, folder: Folder, dropped: bool) -> Started
+    ensures { started_of result ≡ record { session = new_session folder.files; dropped = dropped } }
 {
     Started {
         session: Session::new(alloc, folder),
-        dropped: false,
+        dropped,
     }
 }
 
@@ -97,14 +96,11 @@ fn without_history(alloc: Global, folder: Folder) -> Started
 // new session whose history was dropped, otherwise the fault, as the definitions say.
 fn without_journal(alloc: Global, fault: JournalFault, folder: Folder) -> Result<Started, OpenFault>
     ensures started { IfOk result (λ s. started folder.files (Err fault) ≡ Ok (started_of s)) }
-    ensures refused { IfErr result (λ refused. (started folder.files (Err fault) ≡ Err fault)
-        × (refused ≡ refused_as fault)) }
+    ensures unopened { IsErr result → started folder.files (Err fault) ≡ Err fault }
+    ensures refused { IfErr result (λ refused. refused ≡ refused_as fault) }
 {
     match fault {
-        JournalFault::FolderChanged { halfway: false } => Ok(Started {
-            session: Session::new(alloc, folder),
-            dropped: true,
-        }),
+        JournalFault::FolderChanged { halfway: false } => Ok(without_history(alloc, folder, true)),
         JournalFault::FolderChanged { halfway: true } => Err(OpenFault::FolderChanged),
         JournalFault::JournalInvalid => Err(OpenFault::JournalInvalid),
         JournalFault::Memory => Err(OpenFault::Memory),
@@ -175,15 +171,6 @@ fn open_with<S: FolderStore>(
     }
 }
 
-// The undo or redo that the command is, if it is one. Opening computes the fingerprints for its journals.
-fn next_of(command: Option<&Command>) -> Option<Next> {
-    match command {
-        Some(Command::Act(Action::Undo)) => Some(Next::Undo),
-        Some(Command::Act(Action::Redo)) => Some(Next::Redo),
-        _ => None,
-    }
-}
-
 // Whether the session can do without its history: the command is a verify, which needs only the folder, and a folder
 // with this journal (`bytes`) opens as it is, with no command halfway (`OpensAsIs`).
 fn needs_no_history(
@@ -202,7 +189,8 @@ fn needs_no_history(
 }
 
 /// Opens a store for a command, if one is given, as [`open_store`] does; a run calls it. For a verify the session is on
-/// the same folder but may lack its history, and `dropped` may be false although a history was dropped.
+/// the same folder but may lack its history, and `dropped` may be false although a history was dropped. Before an undo
+/// or redo the fingerprints in its journals are computed on the way.
 pub(crate) fn open_for<S: FolderStore>(
     alloc: Global,
     store: &mut S,
@@ -214,12 +202,17 @@ pub(crate) fn open_for<S: FolderStore>(
 {
     let (folder, journal) = read_store(alloc, store)?;
     let Some(bytes) = journal else {
-        return Ok(without_history(alloc, folder));
+        return Ok(without_history(alloc, folder, false));
     };
     if needs_no_history(alloc, command, &folder, &bytes)? {
-        return Ok(without_history(alloc, folder));
+        return Ok(without_history(alloc, folder, false));
     }
-    open_with(alloc, store, folder, &bytes, next_of(command))
+    let next = match command {
+        Some(Command::Act(Action::Undo)) => Some(Next::Undo),
+        Some(Command::Act(Action::Redo)) => Some(Next::Redo),
+        _ => None,
+    };
+    open_with(alloc, store, folder, &bytes, next)
 }
 
 /// Opens a store as a session: reads its names, files and journal, and takes back a halfway command. If the folder

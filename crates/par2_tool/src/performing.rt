@@ -1,13 +1,18 @@
 //! One command on an opened store and its session. `perform` prepares it in memory (`Session::prepare`, then
 //! `Session::journals`), writes it to the store (`write_down`), and commits it to the session (`Session::commit`).
-ghost use Rattle.std.specs.Prelude.{IfOk, IfErr};
-ghost use Rattle.par2_spec.specs.Sessions.{session_of_kept};
-ghost use Rattle.par2_spec.specs.Views.{command_of};
-ghost use Rattle.par2_tool.specs.OpenedStores.{CountsCalls, KeepsStore, ActsOn, IsPerformed, IsRefused, RefusesAtOnce, calls_requested, failure_for};
+//!
+//! `write_down` puts the halfway journal (`begin`), makes the changes (`write_change`), and puts the final journal.
+//! Taking back a halfway command calls it too.
 
-use crate::writing::write_down;
-use par2_disk::FolderStore;
-use par2_journal::{Report, Session, SessionFault, Steps, ready_changes_apply};
+ghost use Rattle.std.specs.Prelude.{IfOk, IfErr};
+ghost use Rattle.par2_spec.specs.Prelude.{command_of};
+ghost use Rattle.par2_tool.specs.OpenedStores.{KeepsStore, ActsOn, IsPerformed, IsRefused, RefusesAtOnce, failure_for, Begins, WritesDown};
+ghost use Rattle.par2_disk.specs.Stores.{Makes};
+ghost use Rattle.par2_files.specs.Folders.{change_of};
+
+use par2_disk::{FolderStore, StoreFault};
+use par2_files::Change;
+use par2_journal::{Journals, Report, Session, SessionFault, Steps, ready_changes_apply};
 use par2_spec::{Command, Failure, Fault};
 use std::alloc::{AllocError, Global};
 use thiserror::Error;
@@ -33,7 +38,7 @@ pub enum PerformFault {
 impl From<AllocError> for PerformFault {
     ghost use Rattle.std.specs.Prelude.{◌≡◌};
     ghost use Rattle.par2_spec.specs.declared.Fault.TheVariants.{Memory};
-    ghost use Rattle.par2_journal.specs.declared.preparation.SessionFault.TheVariants.{Plan};
+    ghost use Rattle.par2_journal.specs.declared.commands.SessionFault.TheVariants.{Plan};
     ghost use Rattle.par2_tool.specs.declared.performing.PerformFault.TheVariants as refused;
 
     ghost from_gives = { λ _ fault. fault ≡ refused.Session (Plan Memory) };
@@ -78,13 +83,11 @@ pub fn perform<S: FolderStore>(
     // allocated.
     ensures refused { IfErr result (IsRefused (command_of command.now) session.old session.new) }
     ensures at_once { RefusesAtOnce (command_of command.now) session.old result }
-    // What is done to the store, also by a failure or a power cut. A refusal and a verify do nothing to it.
+    // What is done to the store, also by a failure or a power cut, and by how many writing calls. A refusal and a verify
+    // do nothing to it.
     ensures stored { ActsOn S.Store command.now store.old store.new session.old session.new result }
-    // No failure but the store's is counted, and its writing calls are those of the action.
+    // No failure but the store's is counted.
     ensures keeps { KeepsStore S.Store failure_for store.old store.new result }
-    ensures calls { CountsCalls failure_for
-        (calls_requested (session_of_kept session.old) (command_of command.now))
-        (S.writing_calls store.old) (S.writing_calls store.new) result }
 {
     // For the prover: a store left by a stop opens only if the session's entries can be walked, which the contract of
     // `folder` says. `ready_changes_apply` says that the prepared changes apply.
@@ -108,4 +111,45 @@ pub fn perform<S: FolderStore>(
         Ok(()) => Ok(Outcome::Done(session.commit(prepared))),
         Err(_) => Err(PerformFault::Store),
     }
+}
+
+// Makes one change with one writing call. An impossible change fails, so a file that the listing left out is never
+// overwritten.
+#[tactic(auto, unfolding(par2_spec::specs::Changes::effect))]
+fn write_change<S: FolderStore>(store: &mut S, change: &Change) -> Result<(), StoreFault>
+    ensures { Makes S.Store store.old store.new (change_of change.now) result }
+{
+    match change {
+        Change::Write(name, bytes) => store.write(name, bytes.as_slice()),
+        Change::Replace(name, bytes) => store.replace(name, bytes.as_slice()),
+        Change::Rename(from, to) => store.rename(from, to),
+        Change::Remove(name) => store.remove(name),
+    }
+}
+
+// Puts the halfway journal, if there is one, so that what a stop leaves can be taken back. There is none if nothing is
+// changed, or if the changes take a command back: its halfway journal is in the store already.
+fn begin<S: FolderStore>(store: &mut S, halfway: &Option<Vec<u8>>) -> Result<(), StoreFault>
+    ensures { Begins S.Store store.old store.new halfway.now result }
+{
+    match halfway {
+        Some(bytes) => store.put_journal(bytes),
+        None => Ok(()),
+    }
+}
+
+/// Makes changes in a store, in order, between two journals: the halfway one, if there is one, and the final one.
+/// `IsStoppedAt`: a failure or a power cut leaves the store as it was before, after some of the changes, or after all.
+pub fn write_down<S: FolderStore>(
+    store: &mut S,
+    journals: &Journals,
+    changes: &[Change],
+) -> Result<(), StoreFault>
+    ensures { WritesDown S.Store store.old store.new journals.now changes.now result }
+{
+    begin(store, &journals.halfway)?;
+    for change in changes {
+        write_change(store, change)?;
+    }
+    store.put_journal(&journals.after)
 }

@@ -3,13 +3,12 @@
 //! prints.
 #![tactic(auto, unfolding(par2_spec::specs::Output::output_of, par2_spec::specs::Output::status_of, par2_spec::specs::Output::status_of_fault, par2_spec::specs::Output::status_of_failure))]
 
-ghost use Rattle.std.specs.Prelude.{◌≡◌, ◌++◌, [], map};
-ghost use Rattle.par2_spec.specs.Output.{done_lines, note_line, report_lines, output_of, error_of};
+ghost use Rattle.std.specs.Prelude.{◌≡◌, []};
+ghost use Rattle.par2_spec.specs.Prelude.{report_lines, output_of, error_of};
 ghost use Rattle.par2_spec.specs.Output as buffers;
 ghost use Rattle.par2_journal.specs.StepViews.{step_view};
 ghost use Rattle.par2_repair.specs.ReportViews.{state_view, target_report_of, report_view};
-ghost use Rattle.par2_output.specs.PrintedValues.{step_shown, state_shown, target_shown, words_given};
-ghost use Rattle.par2_output.specs.PrinterStates.{PrinterWrote as Wrote};
+ghost use Rattle.par2_output.specs.Printing.{step_shown, state_shown, target_shown, words_given, PrinterWrote as Wrote};
 ghost use Rattle.par2_tool.specs.OpenedStores.{outcome_of};
 ghost use Rattle.par2_tool.specs.Runs.{IsPrinted};
 
@@ -35,19 +34,6 @@ fn printed(step: &Step) -> PrintedStep<'_>
         Step::Rename(from, to) => PrintedStep::Rename(from.as_str(), to.as_str()),
         Step::Remove(name) => PrintedStep::Remove(name.as_str()),
     }
-}
-
-// Writes the lines of an accepted command other than a verify: a note if opening dropped a history (`dropped`), then a
-// line for each step that was done, and their number.
-fn write_accepted<W: Write>(out: &mut Printer<W>, steps: &[Step], dropped: bool) -> Written
-    ensures { Wrote W.contents out.old out.new
-        (note_line dropped ++ done_lines (map step_view steps.now)) result }
-{
-    write_note(out, dropped)?;
-    for step in steps {
-        write_step(out, printed(step))?;
-    }
-    write_done(out, steps.len())
 }
 
 // The state of a target's file as `par2_output` prints it, with a borrowed name.
@@ -85,15 +71,20 @@ fn write_report<W: Write>(out: &mut Printer<W>, report: &Report) -> Written
     write_verdict(out, report.verdict(), report.lost, report.rank)
 }
 
-// Writes what `tell` prints, without a flush: the report of a verify, or the steps of any other command. `dropped` says
-// that opening dropped a history, which a report doesn't show.
+// Writes what `tell` prints, without a flush: the report of a verify, or a line for each step of any other command, and
+// their number, below a note if opening dropped a history (`dropped`).
 fn write_outcome<W: Write>(out: &mut Printer<W>, outcome: &Outcome, dropped: bool) -> Written
     ensures { Wrote W.contents out.old out.new (output_of dropped (outcome_of outcome.now)) result }
 {
-    match outcome {
-        Outcome::Report(report) => write_report(out, report),
-        Outcome::Done(steps) => write_accepted(out, steps.as_slice(), dropped),
+    let steps = match outcome {
+        Outcome::Report(report) => return write_report(out, report),
+        Outcome::Done(steps) => steps.as_slice(),
+    };
+    write_note(out, dropped)?;
+    for step in steps {
+        write_step(out, printed(step))?;
     }
+    write_done(out, steps.len())
 }
 
 // The exit status of an accepted command, if it can be printed: a verify's depends on its verdict, any other is 0.
@@ -133,32 +124,25 @@ pub fn tell<W: Write>(out: &mut Printer<W>, outcome: &Outcome, dropped: bool) ->
     }
 }
 
-// The exit status of a command that is refused for this fault: 4 for an unreadable set, 2 and 5 for a repair that can't
-// be done or gave wrong bytes, 1 for a purge of an incomplete set, 8 for memory, and 3 for wrong numbers or names.
-fn status_of_fault(fault: Fault) -> u8
-    ensures { result ≡ buffers.status_of_fault fault }
-{
-    match fault {
-        Fault::NoPackets
-        | Fault::NoMain
-        | Fault::NoDescription
-        | Fault::NoChecksums
-        | Fault::BadSet => 4,
-        Fault::NotRepairable { .. } => 2,
-        Fault::RepairFailed => 5,
-        Fault::NotComplete => 1,
-        Fault::Memory => 8,
-        _ => 3,
-    }
-}
-
-// The exit status of a failed run, if the failure can be printed: that of the fault if the command was refused, 6 for
-// the store, 3 for wrong words, and 9 for a journal or a history that the run can't use.
+// The exit status of a failed run, if the failure can be printed: 6 for the store, 3 for wrong words, and 9 for a
+// journal or a history that the run can't use. Of a refused command: 4 for an unreadable set, 2 and 5 for a repair that
+// can't be done or gave wrong bytes, 1 for a purge of an incomplete set, 8 for memory, 3 for wrong numbers or names.
 fn status_of_failure(failure: Failure) -> u8
     ensures { result ≡ buffers.status_of_failure failure }
 {
     match failure {
-        Failure::Refused(fault) => status_of_fault(fault),
+        Failure::Refused(fault) => match fault {
+            Fault::NoPackets
+            | Fault::NoMain
+            | Fault::NoDescription
+            | Fault::NoChecksums
+            | Fault::BadSet => 4,
+            Fault::NotRepairable { .. } => 2,
+            Fault::RepairFailed => 5,
+            Fault::NotComplete => 1,
+            Fault::Memory => 8,
+            _ => 3,
+        },
         Failure::Store => 6,
         Failure::Arguments => 3,
         Failure::JournalInvalid

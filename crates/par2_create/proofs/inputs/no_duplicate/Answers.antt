@@ -1,5 +1,5 @@
 use Rattle.par2_create.proofs.Common.{◌≡◌, ◌∙◌, ◌+◌, ◌++◌, ◌∷◌, [], ℕ, List, Bor, inr, sym, ap, Some, true, false, not, get_or, take, subst, arith, below_more, option_map, get_or_default, take_more, not-true, not-false, is_among, holds_more, DuplicateInput, HoldsNames}
-use Rattle.par2_create.proofs.Places.{again_found}
+use Rattle.par2_create.proofs.Refusals.{again_found}
 use Rattle.par2_create.proofs.inputs.no_duplicate.Goals as goal
 
 pub returns-then-not-branch-clause-refused : goal.returns-then-not-branch-clause-refused

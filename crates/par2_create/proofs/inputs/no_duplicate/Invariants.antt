@@ -1,5 +1,5 @@
 use Rattle.par2_create.proofs.Common.{◌≡◌, ◌<◌, ℕ, false, take, HoldsNames}
-use Rattle.par2_create.proofs.Places.{comes_again}
+use Rattle.par2_create.proofs.Refusals.{comes_again}
 use Rattle.par2_create.proofs.inputs.no_duplicate.Given as goal
 
 abbrev pub invariant-loop-i : goal.invariant-loop-i

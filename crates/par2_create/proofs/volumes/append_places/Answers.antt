@@ -8,7 +8,7 @@ loop-k-preserved c =
     let place = place_in c.args.parts.now i in
     let was : List Place = c.args.places.now.items in
     c.in_ok-push.ensures.items
-    ∙ ap (λ n. c.loop-k.places.items ++ record { buffer = i; at = n + k * (68 + c.args.parts.now.set.now.slice) + 68 } ∷ []) (let size : c.len.result ≡ length c.args.parts.now.index.items = search rules in size)
+    ∙ ap (λ n. c.loop-k.places.items ++ record { buffer = i; at = n + k * (68 + c.args.parts.now.slice) + 68 } ∷ []) (let size : c.len.result ≡ length c.args.parts.now.index.items = search rules in size)
     ∙ ap (λ (xs : List Place). xs ++ place k ∷ []) c.loop-k.invariant
     ∙ append_assoc was (map place (range_with_len 0 k)) (place k ∷ [])
     ∙ ap (λ (xs : List Place). was ++ xs) (sym (map-range_with_len_more place 0 k k (zero-add k)))

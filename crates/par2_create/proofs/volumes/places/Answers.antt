@@ -1,6 +1,6 @@
 use Rattle.par2_create.proofs.Common.{◌≡◌, ◌<◌, ◌∙◌, [], List, ℕ, Vec, Global, length, get_or, sym, ap, ap₂, arith, zero-add, length-map, length-replicate, get_or-map, get_or_default, enumerate_from, length-enumerate_from, get_or-enumerate_from, blank_volume, places_in, Volume}
 use Rattle.par2_create.proofs.IndexBytes.{appended_all, appended_next}
-use Rattle.par2_create.proofs.VolumePlaces.{length-volume}
+use Rattle.par2_create.proofs.VolumeLaws.{length-volume}
 use Rattle.par2_create.proofs.volumes.places.Goals as goal
 
 pub append_places-requires : goal.append_places-requires
@@ -17,7 +17,7 @@ append_places-requires c =
     ap (λ (bytes : List ℕ). length bytes) (
     c.deref.ensures.value ∙ ap (λ (t : Vec ℕ Global). t.items) (c.index-buffers-i.is ∙ get_or_default buffers i _ content there) ∙ sym (get_or-map (λ (t : Vec ℕ Global). t.items) buffers i content [] there)
     ∙ ap (λ (xs : List (List ℕ)). get_or xs i []) c.requires ∙ get_or-map volume_bytes volumes i c.index-parts-i.result [] low)
-    ∙ length-volume c.args.parts.now _ volume (λ _. length-replicate {A = ℕ} c.args.parts.now.set.now.slice 0)
+    ∙ length-volume c.args.parts.now _ volume (λ _. length-replicate {A = ℕ} c.args.parts.now.slice 0)
 
 pub loop-i-preserved : goal.loop-i-preserved
 loop-i-preserved c =

@@ -1,6 +1,6 @@
 use Rattle.std.proofs.Common.{ap₂}
-use Rattle.par2_journal.proofs.Common.{◌+◌, take_all, length, sym, ap, ◌∙◌, arith}
-use Rattle.par2_journal_format.specs.Reading.{change_count}
+use Rattle.par2_journal.proofs.Common.{Change, List, ◌+◌, take_all, length, sym, ap, ◌∙◌, arith}
+use Rattle.std.specs.List.{sum_by}
 use Rattle.std.proofs.lemmas.List.Sums.{sum_by_more, sum_by_more_le}
 use Rattle.par2_journal.proofs.opening.change_count.Goals as goal
 
@@ -19,4 +19,4 @@ overflow_add-count c =
     omega (arith, one, c.loop-entry.invariant, sum_by_more_le length c.args.entries.now i entry c.loop-entry-test.true, c.requires)
 
 pub returns : goal.returns
-returns c = c.loop-entry.invariant ∙ ap change_count (take_all c.loop-entry.entry-index c.args.entries.now c.loop-entry-test.false)
+returns c = c.loop-entry.invariant ∙ ap (λ (es : List (List Change)). sum_by length es) (take_all c.loop-entry.entry-index c.args.entries.now c.loop-entry-test.false)

@@ -1,14 +1,9 @@
-use Rattle.par2_journal.proofs.Common.{Err, inl, inr, None, Some, refl, sym, ap, ◌∙◌, halfway_of, journal_of, opened_by_part}
-use Rattle.par2_journal.proofs.Openings.{by_journal, no_journal, opened_with}
+use Rattle.par2_journal.proofs.Common.{None, Some, sym, ap, ◌∙◌, halfway_of, journal_of, opened_by_part}
+use Rattle.par2_journal.proofs.Openings.{by_journal, not_decoded, opened_with}
 use Rattle.par2_journal.proofs.opening.open_untested.Goals as goal
 
-pub returns-in-Err-JournalInvalid : goal.returns-in-Err-JournalInvalid
-returns-in-Err-JournalInvalid c = record {
-  opened = tt;
-  refused = λ _. inr (no_journal c.args.folder.files c.args.bytes.now (c.decode_untested.ensures.invalid (c.in-Err-JournalInvalid.is ∙ ap Err c.in-Err-JournalInvalid.field-0-is)));
-  reported = inl refl;
-  files = refl;
-}
+pub returns-in-Err : goal.returns-in-Err
+returns-in-Err c = not_decoded c.args.folder c.args.bytes.now c.in-Err.fault c.in-Err.ensures.refused
 
 pub returns-in-None : goal.returns-in-None
 returns-in-None c =

@@ -1,5 +1,5 @@
 use Rattle.par2_journal.proofs.Common.{◌≡◌, sym, ap, subst, ◌∙◌, IfOk, is_valid, halfway_of, journal_of, session_at}
-use Rattle.par2_spec.proofs.TestLaws.{none_if}
+use Rattle.par2_spec.proofs.ListsLaws.{none_if}
 use Rattle.par2_journal.proofs.Openings.{settled_as_is}
 use Rattle.par2_journal.proofs.opening.opens_as_is.Goals as goal
 

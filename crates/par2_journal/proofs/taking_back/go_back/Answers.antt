@@ -2,9 +2,8 @@ use Rattle.par2_journal.proofs.Common.{◌≡◌, ◌≤◌, ◌-◌, take, drop
 use Rattle.std.specs.Prelude.{List}
 use Rattle.par2_files.specs.declared.change.Change.{Change}
 use Rattle.par2_journal.proofs.Openings.{goes, goes_not}
-use Rattle.par2_journal.proofs.Prints.{each_after}
-use Rattle.par2_journal.proofs.Readiness.{places_within}
-use Rattle.par2_journal.proofs.Ways.{went_forth}
+use Rattle.par2_journal.proofs.Readiness.{each_after, places_within}
+use Rattle.par2_journal.proofs.Entries.{went_forth}
 use Rattle.par2_journal.proofs.taking_back.go_back.Goals.{After-ne}
 use Rattle.par2_journal.proofs.taking_back.go_back.Goals as goal
 

@@ -1,5 +1,5 @@
-use Rattle.par2_recovery.proofs.Common.{◌≡◌, ◌*◌, ◌∙◌, List, ℕ, rules, sym, ap, subst, arith, length, lists_of, ◌/◌, with_items_is, length-range_with_len, AreWholeBuffers, buffers_of}
-use Rattle.par2_transform.proofs.WholeBuffers.{whole_within}
+use Rattle.par2_recovery.proofs.Common.{◌≡◌, ◌*◌, ◌∙◌, List, ℕ, rules, sym, ap, subst, arith, length, lists_of, ◌/◌, with_items_is, length-range_with_len, AreWholeBuffers, byte_lists}
+use Rattle.par2_transform.proofs.Additions.{whole_within}
 use Rattle.par2_recovery.proofs.OwnBytes.{words_are, zeros_are, recovery_slices_are}
 use Rattle.par2_recovery.proofs.slices.recovery_slices_over.Goals.{After-as_mut_slice}
 use Rattle.par2_recovery.proofs.slices.recovery_slices_over.Goals as goal
@@ -34,5 +34,5 @@ returns c =
     let size : length new ≡ c.in_ok-buffers.buffers.len = search rules in
     rw (with_items_is c.in_ok-buffers.buffers new size)
     (recovery_slices_are c.args.size (c.args.size / 2) c.args.count c.in_ok-places.places.items (halves at) c.in_ok-places.ensures (lists_of c.in_ok-buffers.buffers.items) c.in_ok-buffers.ensures
-    c.args.first (buffers_of c.args.slices.now) c.deref-2.result.now (lists_of new) (c.deref-2.ensures.value ∙ c.in_ok-exponents.ensures)
+    c.args.first (byte_lists c.args.slices.now) c.deref-2.result.now (lists_of new) (c.deref-2.ensures.value ∙ c.in_ok-exponents.ensures)
     (rw (c.as_mut_slice.ensures.value, c.new-outputs.ensures.places, c.deref.ensures.value, c.new-outputs.ensures.words) at c.in_ok-write_recovery_slices.ensures))

@@ -5,7 +5,7 @@ use Rattle.std.specs.BTreeMap.{IsFromIterResult}
 use Rattle.std.specs.Cmp.{IsEquivalence}
 use Rattle.std.specs.Map.{lookup}
 use Rattle.std.specs.Prelude.{find}
-use Rattle.par2_spec.proofs.NamesLaws.{same_name}
+use Rattle.par2_spec.proofs.ListsLaws.{same_name}
 use Rattle.par2_repair.proofs.matching.matches_by_name.Goals as goal
 
 abbrev by_name : Target × Option (List ℕ) → List ℕ × Option (List ℕ)

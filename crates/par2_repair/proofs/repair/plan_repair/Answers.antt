@@ -1,5 +1,5 @@
 use Rattle.par2_repair.proofs.Common.{◌≡◌, ◌⊎◌, inl, inr, List, map, string_bytes, Result, Ok, Err, Option, IfErr, Change, effects, Repair, refusal, after, err_again, err_from_is_err_and, Fault, Memory, RepairFailed, HasItsMd5s, passed, None, Some}
-use Rattle.par2_spec.specs.RepairLaws.{RestoresFiles, RestoresInputs, folder_left}
+use Rattle.par2_spec.specs.Prelude.{RestoresFiles, RestoresInputs, folder_left}
 use Rattle.par2_laws.proofs.RepairAnswers.{answers}
 use Rattle.par2_repair.proofs.repair.plan_repair.Goals as goal
 

@@ -1,4 +1,4 @@
-use Rattle.par2_sets.proofs.Common.{ℕ, ◌≡◌, ◌≤◌, ◌∙◌, true, sym, map, arith, rules, Ok, Some, is_slice_size, main_of, packet_view, set_view, set_from_packets, size_parts}
+use Rattle.par2_sets.proofs.Common.{ℕ, ◌≡◌, ◌≤◌, ◌∙◌, true, sym, subst, map, arith, rules, Ok, Some, IfOk, IsSound, is_slice_size, main_of, packet_view, set_view, set_from_packets, size_parts}
 use Rattle.par2_sets.proofs.Reading.{all_read}
 use Rattle.par2_sets.proofs.set.set_in.Goals.{In_ok-recovery}
 use Rattle.par2_sets.proofs.set.set_in.Goals as goal
@@ -11,20 +11,11 @@ read c =
     let has : main_of c.args.id packets ≡ Some main = sym c.main_of.ensures ∙ c.in-Some.is in
     all_read c.args.id packets main c.slice_size-slice_size.result _ c.in_ok-targets.targets.items c.in_ok-recovery.recovery.items has c.slice_size-slice_size.ensures (search rules) c.in_ok-described.ensures (search rules) (search rules) c.in_ok-recovery.ensures.value
 
-some_size : (s : ℕ) → is_slice_size s ≡ true → 1 ≤ s
-some_size s h = let four = (size_parts s h).1 in omega (arith, four)
-
-pub are_in_profile-requires : goal.are_in_profile-requires
-are_in_profile-requires c = some_size _ (sym c.is_slice_size.ensures ∙ c.if-not-is_slice_size.false)
-
-pub targets_of-requires-clause-size : goal.targets_of-requires-clause-size
-targets_of-requires-clause-size c = some_size _ (sym c.is_slice_size.ensures ∙ c.if-not-is_slice_size.false)
-
 pub returns : goal.returns
 returns c = read (goal.at.returns c).In_ok-recovery
 
 pub invariant_of-result : goal.invariant_of-result
 invariant_of-result c = record {
   rising = c.in_ok-recovery.ensures.rising;
-  sound = c.requires _ (read (goal.at.invariant_of-result c).In_ok-recovery);
+  sound = subst (λ r. IfOk r IsSound) (read (goal.at.invariant_of-result c).In_ok-recovery) c.requires;
 }

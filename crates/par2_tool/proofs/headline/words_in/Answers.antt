@@ -3,7 +3,7 @@ use Rattle.std.specs.Vec.Iter.{into_iter_items}
 use Rattle.std.proofs.lemmas.Grind.{common_steps}
 use Rattle.std.proofs.lemmas.Iterator.{items_from_collect}
 use Rattle.std.proofs.lemmas.Iterator.Adapters.{YieldsList-from_vec}
-use Rattle.par2_spec.specs.Answers.{Lists}
+use Rattle.par2_spec.specs.Prelude.{Lists}
 use Rattle.par2_tool.proofs.headline.words_in.Goals as goal
 
 pub returns : goal.returns

@@ -1,6 +1,5 @@
 use Rattle.par2_tool.proofs.Common.{rules, Some, Ok, sym, ap, subst, ◌∙◌, Vec, ℕ, inl, inr, refl, IfOk, option_map, Global, Started, started_of, IsOpened, WasRead}
-use Rattle.par2_tool.proofs.Outcomes.{opened_as_is, opened_new, stands}
-use Rattle.par2_tool.proofs.Openings.{bytes_read, opens_after_reading, reads_opens}
+use Rattle.par2_tool.proofs.Openings.{bytes_read, opens_after_reading, reads_opens, opened_as_is, opened_new, stands}
 use Rattle.par2_tool.proofs.opening.open_for.Goals.{After-open_with}
 use Rattle.par2_tool.proofs.opening.open_for.Goals as goal
 

@@ -1,6 +1,5 @@
 use Rattle.par2_tool.proofs.Common.{inl, IfOk-from_err, Ok, refl, sym, subst, rules, Halfway, Opens, KeptSession, session_of_kept, opened_of, session_before, way_left, OpensAsBefore, with_history, IsOpened}
-use Rattle.par2_tool.proofs.Calls.{back_calls}
-use Rattle.par2_tool.proofs.Openings.{any_err, counted_without, holds_settled, opened_taken_back, opens_still, opens_without, unopened_without, way_applies, stays_keeps, stays_opens}
+use Rattle.par2_tool.proofs.Openings.{back_calls, any_err, counted_without, holds_settled, opened_taken_back, opens_still, opens_without, unopened_without, way_applies, stays_keeps, stays_opens}
 use Rattle.par2_tool.proofs.opening.open_with.Goals.{In-Halfway}
 use Rattle.par2_tool.proofs.opening.open_with.Goals as goal
 
@@ -11,15 +10,15 @@ opens_so g c = subst (λ found. Opens c.args.folder.files c.args.bytes.now (Ok (
 -- the journal is refused
 pub returns-in-Err-clause-opens : goal.returns-in-Err-clause-opens
 returns-in-Err-clause-opens g c honest read = (
-  opens_without _ _ _ c.in-Err.fault c.without_journal.result _ c.in-Err.ensures.files c.without_journal.ensures.started c.without_journal.ensures.refused read c.in-Err.ensures.refused,
+  opens_without _ _ _ c.in-Err.fault c.without_journal.result _ c.in-Err.ensures.files c.without_journal.ensures.started c.without_journal.ensures.unopened c.without_journal.ensures.refused read c.in-Err.ensures.refused,
   stays_opens g.S.Store c.args.store.now c.without_journal.result
-      (unopened_without _ _ _ c.in-Err.fault c.without_journal.result _ c.in-Err.ensures.files c.without_journal.ensures.started c.without_journal.ensures.refused read c.in-Err.ensures.refused),
+      (unopened_without _ _ _ c.in-Err.fault c.without_journal.result _ c.in-Err.ensures.files c.without_journal.ensures.started c.without_journal.ensures.unopened c.without_journal.ensures.refused read c.in-Err.ensures.refused),
 )
 
 pub returns-in-Err-clause-keeps : goal.returns-in-Err-clause-keeps
 returns-in-Err-clause-keeps g c =
     stays_keeps g.S.Store c.args.store.now c.without_journal.result
-    (counted_without (g.S.Store.contents c.args.store.now) _ c.args.bytes.now c.in-Err.fault c.without_journal.result _ c.in-Err.ensures.files c.without_journal.ensures.started c.without_journal.ensures.refused _)
+    (counted_without (g.S.Store.contents c.args.store.now) _ c.args.bytes.now c.in-Err.fault c.without_journal.result _ c.in-Err.ensures.files c.without_journal.ensures.started c.without_journal.ensures.unopened c.without_journal.ensures.refused _)
 
 pub returns-in-Settled-clause-opens : goal.returns-in-Settled-clause-opens
 returns-in-Settled-clause-opens g c honest read =
@@ -69,5 +68,3 @@ returns-in_ok-session-in-Halfway-clause-opens g c honest read =
         calls = back_calls old files bytes session back _ _ _ read opens (record { done = (arm.taken honest).calls.done; refused = tt });
       },
     )
-
--- nothing is done to the store

@@ -33,21 +33,21 @@ returns-in-Ok-clause-taken g c honest =
     record {
       done = search rules;
       stopped = tt;
-      remains = λ durable left may. still_so g (goal.at.returns-in-Ok-clause-taken g c).After-write_down left (c.write_down.ensures.written.remains honest durable left may);
+      remains = λ durable left may. still_so g (goal.at.returns-in-Ok-clause-taken g c).After-write_down left (c.write_down.ensures.remains honest durable left may);
       refused = tt;
-      possible = λ all. c.write_down.ensures.written.possible honest (subst (λ changes. IsTrue (are_applicable (g.S.Store.contents c.args.store.now).files changes)) (sym c.changes.ensures) all);
-      calls = record { done = omega (arith, c.in-Ok.ensures.written.calls.done, number); refused = tt };
+      possible = λ all. c.write_down.ensures.possible honest (subst (λ changes. IsTrue (are_applicable (g.S.Store.contents c.args.store.now).files changes)) (sym c.changes.ensures) all);
+      calls = record { done = omega (arith, c.in-Ok.ensures.calls.done, number); refused = tt };
     }
 
 pub returns-in-Err-clause-taken : goal.returns-in-Err-clause-taken
 returns-in-Err-clause-taken g c honest =
     let number = way_length g (goal.at.returns-in-Err-clause-taken g c).After-write_down in
-    let most = c.in-Err.ensures.written.calls.refused in
+    let most = c.in-Err.ensures.calls.refused in
     record {
       done = tt;
-      stopped = still_so g (goal.at.returns-in-Err-clause-taken g c).After-write_down _ (c.in-Err.ensures.written.stopped honest);
-      remains = λ durable left may. still_so g (goal.at.returns-in-Err-clause-taken g c).After-write_down left (c.write_down.ensures.written.remains honest durable left may);
+      stopped = still_so g (goal.at.returns-in-Err-clause-taken g c).After-write_down _ (c.in-Err.ensures.stopped honest);
+      remains = λ durable left may. still_so g (goal.at.returns-in-Err-clause-taken g c).After-write_down left (c.write_down.ensures.remains honest durable left may);
       refused = tt;
-      possible = λ all. c.write_down.ensures.written.possible honest (subst (λ changes. IsTrue (are_applicable (g.S.Store.contents c.args.store.now).files changes)) (sym c.changes.ensures) all);
+      possible = λ all. c.write_down.ensures.possible honest (subst (λ changes. IsTrue (are_applicable (g.S.Store.contents c.args.store.now).files changes)) (sym c.changes.ensures) all);
       calls = record { done = tt; refused = record { later = most.later; within = omega (arith, most.within, number) } };
     }

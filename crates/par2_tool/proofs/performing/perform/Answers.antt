@@ -1,23 +1,21 @@
-use Rattle.par2_tool.proofs.Common.{◌≡◌, ◌+◌, inl, List, length, refl, sym, ap, subst, ◌∙◌, map, take, ℕ, arith, Result, OnOk, IfOk-from_err, on_ok_weaker, IsVerify, HoldsJournaled, AreAtMost, KeptSession, after_write_down, IsStoppedAt, IsWritten, calls_requested, FingerprintsDifferAlong, OpensAsBeforeOrAfter, calls_before, length-map, Verify, session_of_kept, changes_requested, Contents, action_of, command_of, report_view, MayRefuse, Plan, SpellsReady, change_of, changes_by_kind, after_commit, ok_no_err, early_refusal_of, IfOk, effects, PerformFault, ActsOn, IsOn, IsPerformed, RefusesAtOnce}
+use Rattle.par2_tool.proofs.Common.{◌≡◌, ◌+◌, inl, List, length, refl, sym, ap, subst, ◌∙◌, map, take, ℕ, arith, Result, OnOk, IfErr, IfErr-weaker, IfOk-from_err, Memory, err_from_is_err_and, on_ok_weaker, IsVerify, HoldsJournaled, AreAtMost, IsCounted, failure_for, SessionFault, KeptSession, after_write_down, IsStoppedAt, IsWritten, calls_requested, FingerprintsDifferAlong, OpensAsBeforeOrAfter, calls_before, length-map, Verify, session_of_kept, changes_requested, Contents, action_of, command_of, report_view, MayRefuse, Plan, SpellsReady, change_of, changes_by_kind, after_commit, ok_no_err, early_refusal_of, IfOk, effects, PerformFault, ActsOn, IsOn, IsPerformed, RefusesAtOnce}
 use Rattle.par2_spec.specs.Changes as defined
 use Rattle.par2_spec.specs.declared.commands.Action as requested
 use Rattle.par2_spec.specs.declared.commands.Command.{Command}
 use Rattle.par2_spec.specs.declared.commands.Command.TheVariants.{Act}
 use Rattle.par2_spec.proofs.AcceptedCommands.{command_leads}
-use Rattle.par2_disk.specs.declared.view.Store.{Ghosts as StoreOf}
+use Rattle.par2_disk.specs.declared.store.Store.{Ghosts as StoreOf}
 use Rattle.par2_tool.specs.declared.performing.Outcome.{Outcome}
 use Rattle.par2_tool.specs.declared.performing.Outcome.TheVariants as outcome
-use Rattle.par2_tool.proofs.Calls.{for_verify, requested_calls, ready_calls, session_counts}
-use Rattle.par2_tool.proofs.Openings.{any_err}
-use Rattle.par2_tool.proofs.VerifyRuns.{as_it_was, not_verify, verify_leaves, verify_refused, written_by}
-use Rattle.par2_tool.proofs.Stops.{IsMadeReady, none_made, made_ready, ready_applies, written_down, stopped_opens, requested_in_order}
+use Rattle.par2_tool.specs.declared.performing.PerformFault.TheVariants.{Session as Refusing}
+use Rattle.par2_tool.proofs.Openings.{for_verify, requested_calls, ready_calls, session_counts, any_err, IsMadeReady, none_made, made_ready, ready_applies, written_down, stopped_opens, requested_in_order, as_it_was, not_verify, verify_leaves, verify_refused, written_by}
 use Rattle.par2_tool.proofs.performing.perform.Goals.{After-write_down, In-Ok-prepare}
 use Rattle.par2_tool.proofs.performing.perform.Goals as goal
 
 -- nothing was done to the store
 stays_on : {S T : Type 0} (store : StoreOf S) (command : Command) (it : S) (before after : KeptSession) (result : Result T PerformFault)
-    → OnOk result (IsVerify (command_of command)) → (IsVerify (command_of command) → after ≡ before) → ActsOn store command it it before after result
-stays_on store command it before after result verify same = record {
+    → OnOk result (IsVerify (command_of command)) → IfErr result (λ fault. (reason : SessionFault) × (fault ≡ Refusing reason)) → (IsVerify (command_of command) → after ≡ before) → ActsOn store command it it before after result
+stays_on store command it before after result verify refused same = record {
   verify = λ is. (refl, same is);
   unchanged = λ _ _. refl;
   written = λ _. on_ok_weaker result (λ is. for_verify (λ action. IsWritten action (session_of_kept after) (store.contents it) (store.contents it)) (λ _ _. refl) (command_of command) is) verify;
@@ -25,13 +23,18 @@ stays_on store command it before after result verify same = record {
   cut = λ _ durable _ left may. inl (durable left may);
   in_order = λ _. any_err result _ (none_made (store.contents it).files (changes_requested (session_of_kept before) (command_of command)));
   possible = λ _. refl;
+  calls = record {
+    done = on_ok_weaker result (λ is. for_verify (λ action. store.writing_calls it ≡ store.writing_calls it + calls_requested (session_of_kept before) action) (λ _ _. omega arith) (command_of command) is) verify;
+    refused =
+        let n = store.writing_calls it in
+        let most = AreAtMost (calls_requested (session_of_kept before) (command_of command)) n n in
+        IfErr-weaker result _ _ (λ fault is. subst (λ (f : PerformFault). IsCounted most n n (failure_for f)) (sym is.1) (session_counts most n is.0)) refused;
+  };
 }
 
 -- no action is a verify
 no_verify : {A : Type 0} (command : Command) (action : requested.Action) → command ≡ Act action → IsVerify (command_of command) → A
 no_verify command action is verify = absurd (not_verify action (subst (λ (x : Command). IsVerify (command_of x)) is verify))
-
--- ---- a verify
 
 pub returns-in-Ok-clause-done : goal.returns-in-Ok-clause-done
 returns-in-Ok-clause-done g c =
@@ -45,7 +48,7 @@ returns-in-Ok-clause-done g c =
     })
 
 pub returns-in-Ok-clause-stored : goal.returns-in-Ok-clause-stored
-returns-in-Ok-clause-stored g c = stays_on g.S.Store c.args.command.now c.args.store.now _ _ _ (subst (λ (x : Command). IsVerify (command_of x)) (sym c.in-Verify.is) tt) (λ _. refl)
+returns-in-Ok-clause-stored g c = stays_on g.S.Store c.args.command.now c.args.store.now _ _ _ (subst (λ (x : Command). IsVerify (command_of x)) (sym c.in-Verify.is) tt) tt (λ _. refl)
 
 pub returns-in-Err-clause-refused : goal.returns-in-Err-clause-refused
 returns-in-Err-clause-refused g c =
@@ -56,18 +59,13 @@ returns-in-Err-clause-refused g c =
     )
 
 pub returns-in-Err-clause-stored : goal.returns-in-Err-clause-stored
-returns-in-Err-clause-stored g c = stays_on g.S.Store c.args.command.now c.args.store.now _ _ _ tt (λ _. refl)
-
--- ---- what its session refuses
+returns-in-Err-clause-stored g c = stays_on g.S.Store c.args.command.now c.args.store.now _ _ _ tt (Plan c.in-Err.fault, refl) (λ _. refl)
 
 pub returns-in-Err-prepare-clause-stored : goal.returns-in-Err-prepare-clause-stored
-returns-in-Err-prepare-clause-stored g c = stays_on g.S.Store c.args.command.now c.args.store.now _ _ _ tt (no_verify c.args.command.now c.in-Act.action c.in-Act.is)
+returns-in-Err-prepare-clause-stored g c = stays_on g.S.Store c.args.command.now c.args.store.now _ _ _ tt (c.in-Err-prepare.fault, refl) (no_verify c.args.command.now c.in-Act.action c.in-Act.is)
 
 pub returns-in-Err-prepare-clause-keeps : goal.returns-in-Err-prepare-clause-keeps
 returns-in-Err-prepare-clause-keeps g c = record { honest = λ h. h; kept = λ _ _. tt; later = omega arith; counted = session_counts _ _ c.in-Err-prepare.fault; steady = tt }
-
-pub returns-in-Err-prepare-clause-calls : goal.returns-in-Err-prepare-clause-calls
-returns-in-Err-prepare-clause-calls g c = record { done = tt; refused = session_counts _ _ c.in-Err-prepare.fault }
 
 -- what is refused at once isn't prepared
 none_at_once : (g : _) (c : In-Ok-prepare g) (result : Result Outcome PerformFault) → RefusesAtOnce (command_of c.args.command.now) c.args.session.now result
@@ -84,12 +82,11 @@ returns-in_err-journals-clause-at_once g c = none_at_once g (goal.at.returns-in_
 
 pub returns-in_err-journals-clause-stored : goal.returns-in_err-journals-clause-stored
 returns-in_err-journals-clause-stored g c =
-    stays_on g.S.Store c.args.command.now c.args.store.now _ _ c.from_residual.result (IfOk-from_err c.from_residual.result _ c.from_residual.ensures.0) (no_verify c.args.command.now c.in-Act.action c.in-Act.is)
+    let p = err_from_is_err_and c.from_residual.result c.from_residual.ensures.1 in
+    stays_on g.S.Store c.args.command.now c.args.store.now _ _ c.from_residual.result (IfOk-from_err c.from_residual.result _ c.from_residual.ensures.0) (rw p.1 (Plan Memory, p.2)) (no_verify c.args.command.now c.in-Act.action c.in-Act.is)
 
 pub returns-in-Err-write_down-clause-at_once : goal.returns-in-Err-write_down-clause-at_once
 returns-in-Err-write_down-clause-at_once g c = none_at_once g (goal.at.returns-in-Err-write_down-clause-at_once g c).In-Ok-prepare _
-
--- ---- an action
 
 -- what was prepared, and the changes that were written
 made_of : (g : _) (c : After-write_down g) → IsMadeReady (action_of c.in-Act.action) c.args.session.now c.in-Ok-prepare.prepared c.prepare.new.self
@@ -117,8 +114,17 @@ opens_so g c files apart left stop =
     (subst (λ (x : Command). FingerprintsDifferAlong session (command_of x)) c.in-Act.is apart) c.in-Ok-prepare.ensures.leads)
 
 possible_so : (g : _) (c : After-write_down g) → IsOn g.S.Store c.args.store.now c.args.session.now → g.S.Store.impossible c.write_down.new.store ≡ g.S.Store.impossible c.args.store.now
-possible_so g c on = c.write_down.ensures.written.possible on.honest
+possible_so g c on = c.write_down.ensures.possible on.honest
     (ready_applies (action_of c.in-Act.action) c.args.session.now c.in-Ok-prepare.prepared c.prepare.new.self (made_of g c) (g.S.Store.contents c.args.store.now) on.files _ (changed_so g c))
+
+-- by this number of writing calls
+calls_so : (g : _) (c : After-write_down g) → calls_before c.in_ok-journals.journals.halfway + (length c.changes.result.now + 1) ≡ calls_requested (session_of_kept c.args.session.now) (command_of c.args.command.now)
+calls_so g c =
+    let old = c.args.session.now in
+    ap (λ n. calls_before c.in_ok-journals.journals.halfway + (n + 1)) (sym (length-map c.changes.result.now change_of) ∙ ap length (changed_so g c))
+    ∙ ready_calls (action_of c.in-Act.action) old c.in-Ok-prepare.prepared c.prepare.new.self (made_of g c) c.in_ok-journals.journals (spelled_so g c)
+    ∙ requested_calls c.in-Act.action (session_of_kept old)
+    ∙ ap (λ (x : Command). calls_requested (session_of_kept old) (command_of x)) (sym c.in-Act.is)
 
 -- the store holds the session afterwards
 pub returns-in-Ok-write_down-clause-stored : goal.returns-in-Ok-write_down-clause-stored
@@ -135,15 +141,16 @@ returns-in-Ok-write_down-clause-stored g c =
       verify = no_verify c.args.command.now given c.in-Act.is;
       unchanged = λ reason is. absurd (let no : ⊥ = cc is in no);
       written = λ on.
-          let there : new ≡ after_write_down start journals (changes_by_kind kind mid) = c.in-Ok-write_down.ensures.written.done on.honest ∙ ap (after_write_down start journals) (changed_so g at) in
+          let there : new ≡ after_write_down start journals (changes_by_kind kind mid) = c.in-Ok-write_down.ensures.done on.honest ∙ ap (after_write_down start journals) (changed_so g at) in
           let all : HoldsJournaled (session_of_kept (after_commit kind mid)) (after_write_down start journals (changes_by_kind kind mid)) =
           written_down (action_of given) c.args.session.now c.in-Ok-prepare.prepared mid (made_of g at) journals (spelled_so g at) start on.files in
           subst (λ (x : Command). IsWritten (command_of x) (session_of_kept c.commit.new.self) start new) (sym c.in-Act.is)
           (written_by given (session_of_kept c.commit.new.self) start new (rw (there, after) all));
       stopped = λ _ _. tt;
-      cut = λ on durable apart left may. opens_so g at on.files apart left (c.write_down.ensures.written.remains on.honest durable left may);
+      cut = λ on durable apart left may. opens_so g at on.files apart left (c.write_down.ensures.remains on.honest durable left may);
       in_order = λ _. tt;
       possible = possible_so g at;
+      calls = record { done = c.in-Ok-write_down.ensures.calls.done ∙ ap (λ n. g.S.Store.writing_calls c.args.store.now + n) (calls_so g at); refused = tt };
     }
 
 -- the store failed
@@ -156,30 +163,14 @@ returns-in-Err-write_down-clause-stored g c =
       verify = no_verify c.args.command.now c.in-Act.action c.in-Act.is;
       unchanged = λ reason is. absurd (let no : ⊥ = cc is in no);
       written = λ _. tt;
-      stopped = λ on apart. opens_so g at on.files apart new (c.in-Err-write_down.ensures.written.stopped on.honest);
-      cut = λ on durable apart left may. opens_so g at on.files apart left (c.write_down.ensures.written.remains on.honest durable left may);
+      stopped = λ on apart. opens_so g at on.files apart new (c.in-Err-write_down.ensures.stopped on.honest);
+      cut = λ on durable apart left may. opens_so g at on.files apart left (c.write_down.ensures.remains on.honest durable left may);
       in_order = λ honest.
           subst (λ (x : Command). IfOk (changes_requested (session_of_kept c.args.session.now) (command_of x)) (λ changes. (n : ℕ) × (new.files ≡ effects start.files (take n changes)))) (sym c.in-Act.is)
-          (requested_in_order (action_of c.in-Act.action) c.args.session.now c.in-Ok-prepare.prepared c.prepare.new.self (made_of g at) start c.in_ok-journals.journals new (stop_of g at new (c.in-Err-write_down.ensures.written.stopped honest)));
+          (requested_in_order (action_of c.in-Act.action) c.args.session.now c.in-Ok-prepare.prepared c.prepare.new.self (made_of g at) start c.in_ok-journals.journals new (stop_of g at new (c.in-Err-write_down.ensures.stopped honest)));
       possible = possible_so g at;
+      calls = record {
+        done = tt;
+        refused = subst (λ n. AreAtMost n (g.S.Store.writing_calls c.args.store.now) (g.S.Store.writing_calls c.write_down.new.store)) (calls_so g at) c.in-Err-write_down.ensures.calls.refused;
+      };
     }
-
--- ---- the writing calls
-
-calls_so : (g : _) (c : After-write_down g) → calls_before c.in_ok-journals.journals.halfway + (length c.changes.result.now + 1) ≡ calls_requested (session_of_kept c.args.session.now) (command_of c.args.command.now)
-calls_so g c =
-    let old = c.args.session.now in
-    ap (λ n. calls_before c.in_ok-journals.journals.halfway + (n + 1)) (sym (length-map c.changes.result.now change_of) ∙ ap length (changed_so g c))
-    ∙ ready_calls (action_of c.in-Act.action) old c.in-Ok-prepare.prepared c.prepare.new.self (made_of g c) c.in_ok-journals.journals (spelled_so g c)
-    ∙ requested_calls c.in-Act.action (session_of_kept old)
-    ∙ ap (λ (x : Command). calls_requested (session_of_kept old) (command_of x)) (sym c.in-Act.is)
-
-pub returns-in-Ok-write_down-clause-calls : goal.returns-in-Ok-write_down-clause-calls
-returns-in-Ok-write_down-clause-calls g c =
-    record { done = c.in-Ok-write_down.ensures.written.calls.done ∙ ap (λ n. g.S.Store.writing_calls c.args.store.now + n) (calls_so g (goal.at.returns-in-Ok-write_down-clause-calls g c).After-write_down); refused = tt }
-
-pub returns-in-Err-write_down-clause-calls : goal.returns-in-Err-write_down-clause-calls
-returns-in-Err-write_down-clause-calls g c = record {
-  done = tt;
-  refused = subst (λ n. AreAtMost n (g.S.Store.writing_calls c.args.store.now) (g.S.Store.writing_calls c.write_down.new.store)) (calls_so g (goal.at.returns-in-Err-write_down-clause-calls g c).After-write_down) c.in-Err-write_down.ensures.written.calls.refused;
-}

@@ -1,4 +1,4 @@
-use Rattle.par2_tool.proofs.Printed.{printed}
+use Rattle.par2_tool.proofs.Runs.{printed}
 use Rattle.par2_tool.proofs.printing.tell.Goals as goal
 
 pub returns-in-Ok : goal.returns-in-Ok

@@ -1,7 +1,6 @@
 use Rattle.par2_journal.proofs.Common.{ap, sym, subst, ◌∙◌, arith, insert, takes_all, KeptSession}
 use Rattle.std.specs.Prelude.{IsTrue}
-use Rattle.par2_journal.proofs.Entries.{length_added}
-use Rattle.par2_journal.proofs.HistorySteps.{done_walks}
+use Rattle.par2_journal.proofs.Entries.{length_added, done_walks}
 use Rattle.par2_journal.proofs.session.Session.add.Goals as goal
 
 pub invariant_of-self : goal.invariant_of-self
@@ -15,5 +14,6 @@ invariant_of-self c =
     record {
       within = rw items (omega (arith, length_added xs n within inverted));
       walks = rw items (done_walks c.self.inside.folder c.apply_and_invert.new.folder xs n within _ _ c.args.changes inverted c.apply_and_invert.ensures.folder c.apply_and_invert.ensures.way_back c.self.invariant.walks applies);
-      ahead = c.none.ensures _;
+      checkpoints = c.none.ensures _;
+      along = tt;
     }

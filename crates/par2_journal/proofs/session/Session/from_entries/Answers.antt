@@ -4,5 +4,6 @@ pub invariant_of-result : goal.invariant_of-result
 invariant_of-result c = record {
   within = c.requires.within;
   walks = record { back = c.requires.walks.back; forth = c.requires.walks.forth };
-  ahead = c.none-ahead.ensures _;
+  checkpoints = c.none-checkpoints.ensures _;
+  along = tt;
 }

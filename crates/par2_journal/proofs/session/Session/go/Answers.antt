@@ -1,5 +1,5 @@
 use Rattle.par2_journal.proofs.Common.{◌≡◌, ◌≢◌, ◌<◌, ◌+◌, ◌-◌, [], length, length-set, ap, subst, ◌∙◌, arith, sym, vec_len, vec_capacity, KeptSession, kept_undone, kept_redone, kept_session, Next, entries_for, moved}
-use Rattle.par2_journal.proofs.HistorySteps.{undo_there, redo_there, undo_taken, undone_to, undone_walks, next_undo_is, redo_taken, redone_to, redone_walks, next_redo_is}
+use Rattle.par2_journal.proofs.Entries.{undo_there, redo_there, undo_taken, undone_to, undone_walks, next_undo_is, redo_taken, redone_to, redone_walks, next_redo_is}
 use Rattle.par2_journal.proofs.session.Session.go.Goals.{In-Undo, In-Redo}
 use Rattle.par2_journal.proofs.session.Session.go.Goals as goal
 
@@ -29,7 +29,8 @@ invariant_of-self c =
     record {
       within = omega (arith, at.within, length-set xs (n - 1) c.apply_and_invert.new.self);
       walks = undone_walks xs (n - 1) at.within c.index_mut.result.now c.index_mut.ensures.value c.self.inside.folder c.apply_and_invert.new.folder _ c.apply_and_invert.new.self c.apply_and_invert.ensures.folder c.apply_and_invert.ensures.way_back n at.one c.self.invariant.walks;
-      ahead = c.none.ensures _;
+      checkpoints = c.none.ensures _;
+      along = tt;
     }
 
 pub returns-in-Undo : goal.returns-in-Undo
@@ -58,7 +59,8 @@ invariant_of-self-in-Redo c =
     record {
       within = omega (arith, within, length-set xs i made.new.self);
       walks = redone_walks xs i within c.index_mut-in-Redo.result.now c.index_mut-in-Redo.ensures.value c.self.inside.folder made.new.folder _ made.new.self made.ensures.folder made.ensures.way_back c.self.invariant.walks;
-      ahead = c.none.ensures _;
+      checkpoints = c.none.ensures _;
+      along = tt;
     }
 
 pub returns-in-Redo : goal.returns-in-Redo

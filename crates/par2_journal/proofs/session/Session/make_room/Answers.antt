@@ -1,5 +1,6 @@
-use Rattle.par2_journal.proofs.Common.{ap, take, drop, arith, reverse, OnlyGrew, grown_can_walk, kept_session}
-use Rattle.par2_journal.proofs.Prints.{ahead_still}
+use Rattle.par2_journal.proofs.Common.{ap, arith, drop, reverse, subst, sym, take, OnlyGrew, grown_can_walk, kept_session}
+use Rattle.par2_files.specs.Checkpoints.{AreCheckpointsOf}
+use Rattle.par2_journal.proofs.Readiness.{along_still}
 use Rattle.par2_journal.proofs.session.Session.make_room.Goals as goal
 
 pub invariant_of-self-2 : goal.invariant_of-self-2
@@ -17,5 +18,6 @@ invariant_of-self-2 c =
     record {
       within = rw items c.self.invariant.within;
       walks = grown_can_walk old _ c.self.invariant.walks grew;
-      ahead = ahead_still c.self.inside.ahead old _ grew c.self.invariant.ahead;
+      checkpoints = subst (λ f. AreCheckpointsOf f c.self.inside.checkpoints) (sym c.in_ok-reserve.ensures.files) c.self.invariant.checkpoints;
+      along = along_still c.self.inside.along old _ grew c.self.invariant.along;
     }

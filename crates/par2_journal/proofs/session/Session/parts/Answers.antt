@@ -1,5 +1,5 @@
 use Rattle.par2_journal.proofs.Common.{[], ◌++◌, ◌-◌, sym, ap, append-nil, ◌∙◌, vec_len, vec_capacity, KeptSession, fingerprint, kept_journal}
-use Rattle.par2_journal.proofs.SessionJournals.{settled_at, settled_with}
+use Rattle.par2_journal.proofs.Readiness.{settled_at, settled_with}
 use Rattle.par2_journal.proofs.session.Session.parts.Goals as goal
 
 pub returns-clause-journal : goal.returns-clause-journal

@@ -1,7 +1,6 @@
 use Rattle.par2_journal.proofs.Common.{◌≡◌, ◌+◌, map, sym, subst, arith, action_of, Execution, Ended, session_of_kept, history_of, run_leaves}
-use Rattle.par2_spec.proofs.SessionLaws.{walked_is_valid}
-use Rattle.par2_journal.proofs.Undos.{give_back}
-use Rattle.par2_journal.proofs.Actions.{none_left, on_accepted, on_refused}
+use Rattle.par2_spec.proofs.FolderLaws.{walked_is_valid}
+use Rattle.par2_journal.proofs.Entries.{give_back, none_left, on_accepted, on_refused}
 use Rattle.par2_journal.proofs.session.Session.play.Goals.{then-act, else-act}
 use Rattle.par2_journal.proofs.session.Session.play.Goals as goal
 
@@ -21,7 +20,7 @@ loop-action-preserved c =
       | else-act w ↦ rw w.accepted-is (record {
         counted = omega (arith, so_far.counted);
         run = on_refused actions i within c.action-item.result c.action-item.is start c.loop-action.self c.act.new.self c.loop-action.accepted so_far.run
-            (c.act.ensures.refused w.if-act.false) (c.act.ensures.unchanged w.if-act.false);
+            (c.act.ensures.may w.if-act.false) (c.act.ensures.unchanged w.if-act.false);
       })
     ]
 

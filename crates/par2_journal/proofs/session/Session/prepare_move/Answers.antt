@@ -1,6 +1,6 @@
 use Rattle.par2_journal.proofs.Common.{◌∙◌, ap, sym, subst, step_of, action_for}
 use Rattle.std.specs.Prelude.{map}
-use Rattle.par2_journal.specs.SessionRefusals.{MayRefuse}
+use Rattle.par2_journal.specs.Commands.{MayRefuse}
 use Rattle.par2_journal.proofs.Readiness.{nothing_to_move, ready_move}
 use Rattle.par2_journal.proofs.session.Session.prepare_move.Goals as goal
 

@@ -1,6 +1,5 @@
 use Rattle.par2_journal.proofs.Common.{map, string_bytes, subst, OnOk, on_ok_weaker, Repair, session_of_kept, accepted_next, walked_is_valid}
-use Rattle.par2_spec.specs.Plans.{AreFewFor}
-use Rattle.par2_spec.specs.RepairLaws.{AnswersRepair, IsRepaired, folder_left}
+use Rattle.par2_spec.specs.Prelude.{AreFewFor, AnswersRepair, IsRepaired, folder_left}
 use Rattle.par2_laws.proofs.RepairAnswers.{answered, session_answers, stands_in_front, together}
 use Rattle.par2_journal.proofs.session.Session.repair.Goals as goal
 

@@ -1,13 +1,12 @@
 use Rattle.par2_journal.proofs.Common.{◌≡◌, ◌+◌, ◌-◌, ◌++◌, ◌∷◌, [], true, length, take, get_or, vec_len, vec_capacity, fingerprint, effects, way_back, state_files, kept_done, kept_journal, Changing, sym, ap, subst, ◌∙◌, takes_all, FolderState, KeptSession, kept_session}
 use Rattle.par2_journal.specs.Sessions.{IsKeptSession}
-use Rattle.par2_journal.proofs.Prints.{at_end, each_after, folders_count}
-use Rattle.par2_journal.proofs.Ways.{back_taken, back_leads, back_again, back_length}
-use Rattle.par2_journal.proofs.SessionJournals.{both_spelled, done_at, settled_with}
+use Rattle.par2_journal.proofs.Readiness.{at_end, each_after, folders_count, both_spelled, done_at, settled_with}
+use Rattle.par2_journal.proofs.Entries.{back_taken, back_leads, back_again, back_length}
 use Rattle.par2_journal.proofs.session.Session.spell_changes.Goals.{After-apply_and_invert, After-apply_and_invert-2}
 use Rattle.par2_journal.proofs.session.Session.spell_changes.Goals as goal
 
-pub both-answer-requires-clause-each : goal.both-answer-requires-clause-each
-both-answer-requires-clause-each c =
+pub both-answer-requires : goal.both-answer-requires
+both-answer-requires c =
     ap length (each_after c.args.fingerprints.now _ _ c.requires.along)
     ∙ folders_count c.args.self.now.folder.files c.args.changes.now
     ∙ sym (ap length c.apply_and_invert.ensures.way_back ∙ back_length c.self.inside.folder c.args.changes.now)

@@ -1,7 +1,6 @@
 use Rattle.par2_journal.proofs.Common.{◌≡◌, [], length, get_or, sym, ap, subst, ◌∙◌, CanWalk, FolderState, KeptSession, Moving, fingerprint, way_back, entries_for, kept_journal, moved, next_changes, state_files}
-use Rattle.par2_journal.proofs.Prints.{at_end, each_after, folders_count}
-use Rattle.par2_journal.proofs.Ways.{back_length}
-use Rattle.par2_journal.proofs.SessionJournals.{both_spelled, moved_back, moved_entry, moved_files, moved_some}
+use Rattle.par2_journal.proofs.Readiness.{at_end, each_after, folders_count, both_spelled, moved_back, moved_entry, moved_files, moved_some}
+use Rattle.par2_journal.proofs.Entries.{back_length}
 use Rattle.par2_journal.proofs.session.Session.spell_move.Goals.{In-Some}
 use Rattle.par2_journal.proofs.session.Session.spell_move.Goals as goal
 
@@ -9,12 +8,12 @@ use Rattle.par2_journal.proofs.session.Session.spell_move.Goals as goal
 way : (c : In-Some) → c.in-Some.back.now ≡ way_back c.args.self.now.folder.files (next_changes c.args.next c.args.self.now)
 way c = c.in-Some.ensures.entry ∙ (λ i. next_changes (c.opposite.ensures i) (c.go.ensures i)) ∙ moved_entry c.args.next c.args.self.now
 
-pub both-answer-requires-clause-each : goal.both-answer-requires-clause-each
-both-answer-requires-clause-each c =
+pub both-answer-requires : goal.both-answer-requires
+both-answer-requires c =
     let s = c.args.self.now in
     ap length (each_after c.args.fingerprints.now _ _ c.requires.along)
     ∙ folders_count s.folder.files (next_changes c.args.next s)
-    ∙ sym (ap length (way (goal.at.both-answer-requires-clause-each c).In-Some) ∙ back_length s.folder (next_changes c.args.next s))
+    ∙ sym (ap length (way (goal.at.both-answer-requires c).In-Some) ∙ back_length s.folder (next_changes c.args.next s))
 
 pub unreachable-requires : goal.unreachable-requires
 unreachable-requires c = moved_some c.args.next c.args.self.now (sym (λ i. entries_for (c.opposite.ensures i) (c.go.ensures i)) ∙ c.next_entry.ensures.none c.in-None.is)

@@ -1,5 +1,0 @@
-use Rattle.par2_sets.proofs.Common.{◌≡◌, take}
-use Rattle.par2_sets.proofs.packets.pairs_in.Given as goal
-
-abbrev pub invariant-loop-k : goal.invariant-loop-k
-invariant-loop-k l = l.pairs.items ≡ take l.k l.checksums.pairs
