@@ -20,7 +20,7 @@ HEADLINE = "crates/par2_tool/src/headline.rt"
 START = re.compile(r" *(?:(?:pub|abbrev|unfoldable|opaque|private|record|data) )*(?:abbrev|unfoldable|opaque|record|data|pub) ([A-Za-z_]\w*)")
 FIELD = re.compile(r" +pub \w+ :")
 TOKEN = re.compile(r"[A-Za-z_][A-Za-z0-9_]*(?:\.[A-Za-z_][A-Za-z0-9_]*)*")
-IMPORT = re.compile(r"(?:ghost )?use Rattle\.([A-Za-z0-9_.]+?)(?:\.\{([^}]*)\})?(?: as ([A-Za-z_]\w*))?;?$")
+IMPORT = re.compile(r"(?:(?:ghost|unfoldable) )?(?:pub )?use Rattle\.([A-Za-z0-9_.]+?)(?:\.\{([^}]*)\})?(?: as ([A-Za-z_]\w*))?;?$")
 
 
 def imports_of(lines):
@@ -80,14 +80,21 @@ def code_of(lines):
     return [line.split(" -- ")[0] for line in lines if line.strip() and not line.strip().startswith("--")]
 
 
+def home_of(module, name, all_modules):
+    """Returns the module that defines the name, where `module` passes it on, and its name there."""
+    while module in all_modules and name not in all_modules[module].definitions and name in all_modules[module].names:
+        module, name = all_modules[module].names[name]
+    return module, name
+
+
 def cited(text, modules, names, own, all_modules):
     """Returns the definitions of the repository that these lines name."""
     for token in set(TOKEN.findall(text)):
         first, _, rest = token.partition(".")
         if token in own[1]:
             yield own[0], token
-        elif first in names and names[first][0] in all_modules:
-            yield names[first]
+        elif first in names and (home := home_of(*names[first], all_modules))[0] in all_modules:
+            yield home
         elif rest and first in modules and modules[first] in all_modules:
             yield modules[first], rest.split(".")[0]
         elif first in own[1]:

@@ -1,8 +1,8 @@
 //! Worked examples of folders and names, and every refusal.
 
 ghost use Rattle.std.specs.Prelude.{map, IsTrue};
-ghost use Rattle.par2_files.specs.ChangeViews.{change_of};
-ghost use Rattle.par2_spec.specs.Changes.{takes_all};
+ghost use Rattle.par2_files.specs.Folders.{change_of};
+ghost use Rattle.par2_spec.specs.Prelude.{takes_all};
 
 use crate::calls::{bytes_in, fingerprint, lists, name};
 use par2_files::{Checkpoints, checkpoint_at, fingerprint_with_checkpoints, fingerprints};

@@ -1,7 +1,7 @@
-ghost use Rattle.std.specs.Prelude.{◌≡◌, ◌≤◌, ◌*◌, ◌%◌, length};
+ghost use Rattle.std.specs.Prelude.{◌≡◌, ◌≤◌, ◌%◌, length};
 
 use crate::plain_field::product;
-use par2_gf16::{Columns, Factor, Gf, WordVector};
+use par2_gf16::{Factor, Gf, vectors_of};
 use std::process::Abort;
 
 pub(super) fn field(rt: &(impl Abort + AllocGlobal)) -> Gf {
@@ -127,18 +127,9 @@ fn by_element(rt: &(impl Abort + AllocGlobal), gf: &Gf, c: u16, src: &[u8], dst:
     sum
 }
 
-fn by_factor(rt: &(impl Abort + AllocGlobal), gf: &Gf, c: u16, src: &[u8], dst: &[u8]) -> Vec<u8>
-    requires same { length src.now ≡ length dst.now }
-    requires even { length dst.now % 2 ≡ 0 }
-{
+fn by_factor(rt: &(impl Abort + AllocGlobal), gf: &Gf, c: u16, src: &[u8], dst: &[u8]) -> Vec<u8> {
     let mut sum = copied(rt, dst);
     gf.mul_add_by(&Factor::new(c), src, &mut sum);
-    sum
-}
-
-fn by_columns(rt: &(impl Abort + AllocGlobal), gf: &Gf, c: u16, src: &[u8], dst: &[u8]) -> Vec<u8> {
-    let mut sum = copied(rt, dst);
-    add_columns(rt, gf, c, src, 0, sum.len() / 2, &mut sum);
     sum
 }
 
@@ -150,24 +141,7 @@ fn by_words(rt: &(impl Abort + AllocGlobal), c: u16, src: &[u8], dst: &[u8]) -> 
     sum
 }
 
-// Adds the products of the words of `src` in this range to `dst`.
-fn add_columns(
-    rt: &(impl Abort + AllocGlobal),
-    gf: &Gf,
-    c: u16,
-    bytes: &[u8],
-    from: usize,
-    to: usize,
-    dst: &mut [u8],
-)
-    requires order { from ≤ to }
-    requires room { 2 * to ≤ length dst.old }
-{
-    let columns = Columns::new(rt.alloc(), bytes, from, to).expect(rt, "memory");
-    gf.mul_add_columns(&Factor::new(c), &columns, dst);
-}
-
-// Whether the element, the factor, the columns and the vectors give what the word by word sum gives on a copy of `dst`.
+// Whether the element, the factor and the vectors give what the word by word sum gives on a copy of `dst`.
 fn is_as_word_by_word(
     rt: &(impl Abort + AllocGlobal),
     gf: &Gf,
@@ -181,35 +155,13 @@ fn is_as_word_by_word(
     let wanted = by_words(rt, c, src, dst);
     by_element(rt, gf, c, src, dst) == wanted
         && by_factor(rt, gf, c, src, dst) == wanted
-        && by_columns(rt, gf, c, src, dst) == wanted
         && by_vectors(rt, c, src, dst) == wanted
 }
 
-// The vectors of the words of `bytes`, padded with zeros.
-fn vectors_of(rt: &(impl Abort + AllocGlobal), bytes: &[u8]) -> Vec<WordVector> {
-    let mut padded = copied(rt, bytes);
-    for _ in 0..63 {
-        if padded.len() % 64 != 0 {
-            padded.push(0).expect(rt, "memory");
-        }
-    }
-    let mut vectors = Vec::new(rt.alloc());
-    for k in 0..padded.len() / 64 {
-        vectors
-            .push(WordVector::from_bytes(&padded, 64 * k))
-            .expect(rt, "memory");
-    }
-    vectors
-}
-
-fn by_vectors(rt: &(impl Abort + AllocGlobal), c: u16, src: &[u8], dst: &[u8]) -> Vec<u8>
-    requires { length dst.now % 2 ≡ 0 }
-{
+fn by_vectors(rt: &(impl Abort + AllocGlobal), c: u16, src: &[u8], dst: &[u8]) -> Vec<u8> {
     let mut sum = copied(rt, dst);
-    let vectors = vectors_of(rt, src);
-    if sum.len() <= 64 * vectors.len() {
-        Factor::new(c).add_products(&vectors, &mut sum);
-    }
+    let vectors = vectors_of(rt.alloc(), src).expect(rt, "memory");
+    Factor::new(c).add_products(&vectors, &mut sum);
     sum
 }
 
@@ -240,20 +192,20 @@ fn every_length_as_word_by_word(rt: HostRuntime) {
     }
 }
 
-// Four words of zeros after these words of a message were added to them. The message ends within the second.
-fn words_added(rt: &(impl Abort + AllocGlobal), gf: &Gf, from: usize, to: usize) -> [u8; 8]
-    requires order { from ≤ to }
-    requires room { to ≤ 4 }
-{
-    let mut words = [0; 8];
-    add_columns(rt, gf, 1, &[1, 2, 3], from, to, &mut words);
-    words
+// Four words of zeros after the words of a message were added to them. The message ends within the second.
+fn words_added(rt: &(impl Abort + AllocGlobal), gf: &Gf) -> ([u8; 8], [u8; 8]) {
+    let vectors = vectors_of(rt.alloc(), &[1, 2, 3]).expect(rt, "memory");
+    let mut by_vectors = [0; 8];
+    Factor::new(1).add_products(&vectors, &mut by_vectors);
+    let mut by_bytes = [0; 8];
+    gf.mul_add_by(&Factor::new(1), &[1, 2, 3], &mut by_bytes);
+    (by_vectors, by_bytes)
 }
 
 #[test]
 fn zeros_follow_bytes_that_end(rt: HostRuntime) {
     let gf = field(&rt);
-    assert!(rt; words_added(&rt, &gf, 0, 4) == [1, 2, 3, 0, 0, 0, 0, 0]);
-    assert!(rt; words_added(&rt, &gf, 1, 2) == [0, 0, 3, 0, 0, 0, 0, 0]);
-    assert!(rt; words_added(&rt, &gf, 3, 4) == [0; 8]);
+    let (by_vectors, by_bytes) = words_added(&rt, &gf);
+    assert!(rt; by_vectors == [1, 2, 3, 0, 0, 0, 0, 0]);
+    assert!(rt; by_bytes == by_vectors);
 }

@@ -1,8 +1,8 @@
 //! Recovery slices by the transform against the sum over the slices, product by product.
 
 ghost use Rattle.std.specs.Prelude.{◌≡◌, ◌<◌, ◌*◌, length, IsTrue};
-ghost use Rattle.par2_spec.specs.Sums.{list_at, lists_of};
-ghost use Rattle.par2_transform.specs.Adding.{HaveWords};
+ghost use Rattle.par2_spec.specs.Prelude.{list_at, lists_of};
+ghost use Rattle.par2_transform.specs.Rows.{HaveWords};
 
 use crate::calls::{are_buffers, lists_of, places_of};
 use crate::gf16::field;

@@ -5,6 +5,6 @@ pub use Rattle.std.proofs.lemmas.List.{ext_get_or, get_or-replicate, length-map,
 pub use Rattle.std.specs.Borrow.{Bor}
 pub use Rattle.std.specs.List.{AllAdjacentBelow, AllByRecursion}
 pub use Rattle.std.specs.Prelude.{All, IfSome, None, Option, Some}
-pub use Rattle.par2_spec.specs.Sums.{list_at, lists_of}
-pub use Rattle.par2_transform.specs.Adding.{place_at}
+pub use Rattle.par2_spec.specs.Prelude.{list_at, lists_of}
+pub use Rattle.par2_transform.specs.Rows.{place_at}
 pub use Rattle.recovery_calls.specs.Outputs.{AreBeside}

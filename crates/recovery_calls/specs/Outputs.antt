@@ -1,6 +1,6 @@
 -- Outputs at their places in buffers.
 use Rattle.std.specs.Prelude.{ℕ}
-use Rattle.par2_transform.specs.Adding.{HasByte}
+use Rattle.par2_transform.specs.Rows.{HasByte}
 use Rattle.par2_transform.specs.declared.outputs.Place.{Place}
 
 -- two outputs of this many words have no byte in common

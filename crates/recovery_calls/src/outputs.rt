@@ -1,9 +1,9 @@
 //! Recovery slices at their places in buffers.
 
 ghost use Rattle.std.specs.Prelude.{◌≡◌, ◌+◌, ◌*◌, ◌<◌, ◌≤◌, ℕ, length, replicate, IsTrue};
-ghost use Rattle.par2_spec.specs.Sums.{list_at, lists_of};
-ghost use Rattle.par2_transform.specs.Adding.{place_at, AreApart, LieWithin};
-ghost use Rattle.par2_solve.specs.WrittenSlices.{AreZeros, output_at};
+ghost use Rattle.par2_spec.specs.Prelude.{list_at, lists_of};
+ghost use Rattle.par2_transform.specs.Rows.{place_at, AreApart, LieWithin};
+ghost use Rattle.par2_solve.specs.Rebuilding.{AreZeros, output_at};
 ghost use Rattle.recovery_calls.specs.Outputs.{AreBeside};
 
 use crate::MOST_SLICES;

@@ -1,7 +1,7 @@
 //! Calls of sessions whose contracts are long, each in a function without a contract. For the prover: it sees only the types of
 //! such a call.
 ghost use Rattle.std.specs.Prelude.{IfOk};
-ghost use Rattle.par2_journal.specs.Ready.{Fits, HasPrintsOf};
+ghost use Rattle.par2_journal.specs.Sessions.{Fits, HasPrintsOf};
 
 use par2_folder::Folder;
 use par2_journal::{

@@ -1,7 +1,7 @@
 //! Calls of folders and sessions, each in a function with few clauses or none. For the prover: it sees only the types
 //! of such a call and those clauses.
 ghost use Rattle.std.specs.Prelude.{IfOk};
-ghost use Rattle.par2_journal.specs.Ready.{Fits, HasPrintsOf};
+ghost use Rattle.par2_journal.specs.Sessions.{Fits, HasPrintsOf};
 
 use par2_folder::{Change, Changes, Folder, Name};
 use par2_journal::{

@@ -1,6 +1,6 @@
 //! The journals of a session. Their bytes were made by another program, from the formats alone.
 ghost use Rattle.std.specs.Prelude.{IfOk};
-ghost use Rattle.par2_journal.specs.Ready.{Fits, HasPrintsOf};
+ghost use Rattle.par2_journal.specs.Sessions.{Fits, HasPrintsOf};
 
 use crate::calls;
 use crate::calls::{encode, is_one_change, journals_of, prepare};

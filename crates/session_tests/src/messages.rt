@@ -5,7 +5,6 @@ use crate::printing::is_reported;
 use par2_arguments::WordsFault;
 use par2_folder::{BadName, ChangeFault, ReadFault, StoreFault};
 use par2_journal::{JournalFault, NothingToRedo, NothingToUndo, SessionFault};
-use par2_journal_format::DecodeFault;
 use par2_output::WriteFault;
 use par2_recovery::{RebuildFault, RecordFault};
 use par2_spec::{Action, Command, Failure, Fault};
@@ -117,17 +116,9 @@ const JOURNAL_FAULTS: &[(JournalFault, Failure)] = &[
     (JournalFault::Memory, Failure::Refused(Fault::Memory)),
 ];
 
-const DECODE_FAULTS: &[(DecodeFault, Failure)] = &[
-    (DecodeFault::JournalInvalid, Failure::JournalInvalid),
-    (DecodeFault::Memory, Failure::Refused(Fault::Memory)),
-];
-
 #[test]
 fn faults_of_journals(rt: HostRuntime) -> Result<(), Fail> {
     for (fault, failure) in JOURNAL_FAULTS {
-        assert!(rt; shows(rt.alloc(), *fault, *failure)?, "{fault}");
-    }
-    for (fault, failure) in DECODE_FAULTS {
         assert!(rt; shows(rt.alloc(), *fault, *failure)?, "{fault}");
     }
     assert!(rt; shows(rt.alloc(), NothingToUndo, Failure::NothingToUndo)?);

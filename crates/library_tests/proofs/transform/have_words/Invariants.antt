@@ -1,5 +1,5 @@
 use Rattle.library_tests.proofs.Common.{ℕ, ◌<◌, ◌≡◌, ◌*◌, length}
-use Rattle.par2_spec.specs.Sums.{list_at, lists_of}
+use Rattle.par2_spec.specs.Prelude.{list_at, lists_of}
 use Rattle.library_tests.proofs.transform.have_words.Given as goal
 
 abbrev pub invariant-loop-t : goal.invariant-loop-t

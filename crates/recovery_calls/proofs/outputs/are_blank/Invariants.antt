@@ -1,5 +1,5 @@
 use Rattle.recovery_calls.proofs.Common.{ℕ, ◌≡◌, ◌*◌, ◌<◌, replicate, lists_of, place_at}
-use Rattle.par2_solve.specs.WrittenSlices.{output_at}
+use Rattle.par2_solve.specs.Rebuilding.{output_at}
 use Rattle.recovery_calls.proofs.outputs.are_blank.Given as goal
 
 abbrev pub invariant-loop-t : goal.invariant-loop-t
