@@ -335,9 +335,6 @@ all_words outputs width n given was buffers some is added =
     let enough : outputs.words ≤ n * width = subst (λ m. outputs.words ≤ m * width) (sym is) (div_ceil_times outputs.words width (omega (arith, some))).0 in
     adds_whole (λ t p. p) given (min outputs.words (n * width)) added (λ t p h fits. omega (arith, enough, fits))
 
--- what `auto` is given for the code
-pub ruleset column_steps = (begins, columns_within, no_words, next_words, all_words)
-
 -- Outputs that are a whole buffer each.
 
 pub are_whole_buffers : (n : ℕ) (places : List Place) → places ≡ map (λ t. record { buffer = t; at = 0 }) (range_with_len 0 n) → AreWholeBuffers n places

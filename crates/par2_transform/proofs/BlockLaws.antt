@@ -390,6 +390,3 @@ windows_weighed cut e rows all = record {
   fit = λ a u. (weight_rows cut e cut.windows rows all).fit a u;
   are = λ a h. all.are a h;
 }
-
--- what `auto` is given for the code
-pub ruleset weight_steps = (none_weighed, weight_rows, windows_weighed)

@@ -1,5 +1,5 @@
 -- Rows of words: vectors added to them, their columns, runs of rows transformed by halves, and lists of points.
-use Rattle.par2_transform.proofs.Common.{[], inl, inr, ℕ, ◌++◌, ◌+◌, ◌-◌, ◌*◌, ◌/◌, ◌%◌, ◌<◌, ◌≤◌, ◌≡◌, refl, sym, ap, ap₂, ◌∙◌, arith, List, length, length-append, length-take-le, length-drop, length-set, get_or, get_or_past, get_or_append_left, get_or-append_right, get_or-drop, get_or-set_other, get_or-set_same, get_or-take, set, take, drop, bit_xor, AreRewritten, cases_eq, cases_lt, subst, word, word_in, word_of, WordVector, AddsToRun, CopiesVectors, IsButterfly, SameValuesOutside, AreTwoRuns, HaveFirst, suc, ◌^◌, ◌⊎◌, add-mul, one-mul, Vec, Global, xor_zero_l, with_items_is, mul_assoc, mul_comm, within, Grid, column, with_items, GivesElements, AreCopied, AreRows, IsAdded, EachColumn, RunAddedBy, IsRun, pow-suc, pow-le-pow_right, xor_comm, xor_lt, xor_zero_r, xor_self, xor_assoc, xor_off, mul, pow, field_sum, field_sum_same, zero-product, product-one, product_comm, point, vanishing, member, power_sum, ArePowerSums, IsMerged, from, IsListed, AreListedValues, OneRun, min}
+use Rattle.par2_transform.proofs.Common.{replicate, zero, [], inl, inr, ℕ, ◌++◌, ◌+◌, ◌-◌, ◌*◌, ◌/◌, ◌%◌, ◌<◌, ◌≤◌, ◌≡◌, refl, sym, ap, ap₂, ◌∙◌, arith, List, length, length-append, length-take-le, length-drop, length-set, get_or, get_or_past, get_or_append_left, get_or-append_right, get_or-drop, get_or-set_other, get_or-set_same, get_or-take, set, take, drop, bit_xor, AreRewritten, cases_eq, cases_lt, subst, word, word_in, word_of, WordVector, AddsToRun, CopiesVectors, IsButterfly, SameValuesOutside, AreTwoRuns, HaveFirst, suc, ◌^◌, ◌⊎◌, add-mul, one-mul, Vec, Global, xor_zero_l, with_items_is, mul_assoc, mul_comm, within, Grid, column, with_items, GivesElements, AreCopied, AreRows, IsAdded, EachColumn, RunAddedBy, IsRun, pow-suc, pow-le-pow_right, xor_comm, xor_lt, xor_zero_r, xor_self, xor_assoc, xor_off, mul, pow, field_sum, field_sum_same, zero-product, product-one, product_comm, point, vanishing, member, power_sum, ArePowerSums, IsMerged, from, IsListed, AreListedValues, OneRun, min}
 use Rattle.std.proofs.Common.{mul-le-mul_right}
 use Rattle.std.proofs.lemmas.List.{length-take}
 use Rattle.par2_gf16.proofs.Words.{in_vector}
@@ -114,9 +114,6 @@ butterfly_next {k = k} {low = low} {high = high} {n = n} {m = m} {f = f} {g = g}
         ∙ ap₂ bit_xor (ap g (sym at_high) ∙ first.above (high + e) (omega (arith, past))) (ap h at_low)
   ];
 }
-
--- what `auto` is given for the code
-pub ruleset vector_steps = (one_rewritten, rewritten_none, past_vectors, vectors_copied, vector_added, run_none, butterfly_none)
 
 -- Rows and their columns.
 
@@ -323,6 +320,12 @@ rows_copied levels words n k other old new same count copied = record {
 pub zero_column : (grid : Grid) → ((p : ℕ) → word_of grid.vectors p ≡ 0) → (c u : ℕ) → column grid c u ≡ 0
 zero_column grid zeros c u = within_zero 0 grid.words c (word_of grid.vectors (u * grid.words + c)) (zeros (u * grid.words + c))
 
+-- vectors of zeros alone
+pub zero_vectors : (n : ℕ) (z : WordVector) → ((j : ℕ) → word_in z j ≡ 0) → (i j : ℕ) → word_in (get_or (replicate n z) i none) j ≡ 0
+zero_vectors zero z zeros i j = refl
+zero_vectors (suc n) z zeros zero j = zeros j
+zero_vectors (suc n) z zeros (suc i) j = zero_vectors n z zeros i j
+
 -- the rows after their vectors are rewritten
 pub kept_rows : (levels width : ℕ) (v : Vec WordVector Global) (old new : List WordVector) → AreRows levels width v.items → old ≡ v.items → AreRewritten old new → length new ≡ v.len → AreRows levels width (with_items v new).items
 kept_rows levels width v old new are is kept size =
@@ -365,14 +368,14 @@ row_column levels width u a b vectors c start end =
 -- ---- rows that are filled one after the other
 
 pub no_first : (given : ℕ → ℕ → ℕ) (old new : Grid) → new.levels ≡ old.levels → new.words ≡ old.words → ((c u : ℕ) → column new c u ≡ 0) → HaveFirst 0 given old new
-no_first given old new levels words zero = record { levels = levels; words = words; first = λ c u h l. absurd (omega (arith, l)); none = λ c u h. zero c u }
+no_first given old new levels words zeros = record { levels = levels; words = words; first = λ c u h l. absurd (omega (arith, l)); none = λ c u h. zeros c u }
 
 pub next_first : (given : ℕ → ℕ → ℕ) (i : ℕ) (other : ℕ → ℕ) (old mid new : Grid) → HaveFirst i given old mid → IsAdded mid new i other → ((c : ℕ) → c < old.words → other c ≡ given c i)
     → HaveFirst (i + 1) given old new
 next_first given i other old mid new so_far added is = grind (arith, xor_zero_l)
 
 -- what `auto` is given for the code
-pub ruleset grid_steps = (kept_rows, copied_rewritten, zeros_rewritten, column_fits, row_words, row_runs, rows_before, rows_fit, zero_column)
+pub ruleset grid_steps = (one_rewritten, rewritten_none, past_vectors, vectors_copied, vector_added, run_none, zeros_rewritten, column_fits, row_words, row_runs, rows_before, rows_fit, zero_column)
 
 -- A run of rows, transformed by halves: both halves are transformed before or after a butterfly.
 

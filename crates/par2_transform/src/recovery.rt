@@ -59,7 +59,6 @@ pub struct Transform<'a> {
 impl<'a> Transform<'a> {
     // Adds to output t the recovery slice of exponent `first + t`, for all outputs in one transform, some columns at a
     // time.
-    #[tactic(auto, using(crate::proofs::Additions::column_steps))]
     fn add_group(
         &self,
         alloc: Global,

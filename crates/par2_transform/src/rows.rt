@@ -1,6 +1,6 @@
 //! The rows of words that a transform works on. Row u has the values of point u (or coefficient u), and
 //! each column of words is transformed by itself.
-#![tactic(auto, using(crate::proofs::GridLaws::grid_steps, crate::proofs::GridLaws::vector_steps))]
+#![tactic(auto, using(crate::proofs::GridLaws::grid_steps))]
 
 ghost use Rattle.std.specs.Prelude.{◌≡◌, ℕ, ◌+◌, ◌*◌, ◌%◌, ◌^◌, ◌<◌, ◌≤◌, length, IfOk};
 ghost use Rattle.par2_gf16.specs.Words.{word_in, word_of};

@@ -238,7 +238,6 @@ fn chirps(alloc: Global, gf: &Gf, plan: &Plan, m: u64) -> Result<Vec<u16>, Alloc
 
 // For each window, the weights of the points whose power sums are the chirps from the window's first number plus
 // `exponent` on.
-#[tactic(auto, using(crate::proofs::BlockLaws::weight_steps))]
 fn window_weights(
     alloc: Global,
     gf: &Gf,

@@ -1,4 +1,4 @@
-use Rattle.par2_transform.proofs.Names.{ℕ, suc, ◌+◌, ◌-◌, ◌*◌, ◌%◌, ◌^◌, ◌<◌, ◌≡◌, ◌∙◌, ap, sym, subst, arith, rules, point, length, slice_index, ArePowerSums, OneRun, first_half, second_half, both_halves, halves_below, run_in_field, sums_of_first, summed_run, double_power, merged_runs, raised_at, run_at, run_back, run_starts, shifted}
+use Rattle.par2_transform.proofs.Names.{ℕ, suc, ◌+◌, ◌-◌, ◌*◌, ◌%◌, ◌^◌, ◌<◌, ◌≤◌, ◌≡◌, ◌∙◌, ap, sym, subst, arith, point, length, slice_index, ArePowerSums, OneRun, first_half, second_half, both_halves, halves_below, run_in_field, sums_of_first, summed_run, double_power, merged_runs, raised_at, run_at, run_back, run_starts, shifted}
 use Rattle.par2_transform.proofs.fourier.+weigh_run.Goals as goal
 
 -- the positions of the halves of a run
@@ -8,17 +8,30 @@ places i q some =
     subst (λ n. (q * 2 ^ n ≡ 2 * q * 2 ^ (i - 1)) × ((2 * q + 1) * 2 ^ (i - 1) ≡ q * 2 ^ n + 2 ^ (i - 1)) × (2 ^ n ≡ 2 ^ (i - 1) + 2 ^ (i - 1))) up
     (first_half (i - 1) q, sym (second_half (i - 1) q), double_power (i - 1))
 
+-- the halves lie within the words
+halves : (i q n : ℕ) → 0 < i → i ≤ 16 → q * 2 ^ i + 2 ^ i ≤ n → (1 * 2 ^ (i - 1) % 18446744073709551616 ≡ 2 ^ (i - 1)) × (q * 2 * (1 * 2 ^ (i - 1) % 18446744073709551616) + 2 ^ suc (i - 1) ≤ n) × (2 ^ suc (i - 1) ≡ 2 ^ (i - 1) + 2 ^ (i - 1))
+halves i q n some level fits =
+    let up : suc (i - 1) ≡ i = omega (arith, some) in
+    let half = shifted (i - 1) (omega (arith, some, level)) in
+    (half, omega (arith, subst (λ m. q * 2 ^ m + 2 ^ m ≤ n) (sym up) fits, ap (λ m. q * 2 * m) half, run_starts (i - 1) q), double_power (i - 1))
+
+pub lower-requires-clause-fits : goal.lower-requires-clause-fits
+lower-requires-clause-fits t c = (halves c.args.i c.args.q (length c.args.words.now) c.if-i-gt0.true c.requires.level c.requires.fits).1
+
+pub add_run-requires-clause-from : goal.add_run-requires-clause-from
+add_run-requires-clause-from t c = omega (arith, halves c.args.i c.args.q (length c.args.words.now) c.if-i-gt0.true c.requires.level c.requires.fits, c.lower.auto.words)
+
 pub weigh_run-requires : goal.weigh_run-requires
 weigh_run-requires t c =
-    let size : length c.add_run.new.words ≡ length c.args.words.now = search rules in
-    let halves = halves_below 16 c.args.i c.args.q c.if-i-gt0.true c.requires.level c.requires.run in
-    (omega (arith, c.decreases, c.if-i-gt0.true), (omega (arith, c.requires.level), (halves, omega (arith, size, places c.args.i c.args.q c.if-i-gt0.true, c.requires.fits))))
+    let size : length c.add_run.new.words ≡ length c.args.words.now = c.add_run.auto.words ∙ c.lower.auto.words in
+    let below = halves_below 16 c.args.i c.args.q c.if-i-gt0.true c.requires.level c.requires.run in
+    (omega (arith, c.decreases, c.if-i-gt0.true), (omega (arith, c.requires.level), (below, omega (arith, size, places c.args.i c.args.q c.if-i-gt0.true, c.requires.fits))))
 
 pub weigh_run-requires-then-i-gt0 : goal.weigh_run-requires-then-i-gt0
 weigh_run-requires-then-i-gt0 t c =
-    let size : length c.weigh_run.new.words ≡ length c.args.words.now = search rules in
-    let halves = halves_below 16 c.args.i c.args.q c.if-i-gt0.true c.requires.level c.requires.run in
-    (omega (arith, c.decreases, c.if-i-gt0.true), (omega (arith, c.requires.level), (omega (arith, halves), omega (arith, size, places c.args.i c.args.q c.if-i-gt0.true, c.requires.fits))))
+    let size : length c.weigh_run.new.words ≡ length c.args.words.now = c.weigh_run.auto.words ∙ c.add_run.auto.words ∙ c.lower.auto.words in
+    let below = halves_below 16 c.args.i c.args.q c.if-i-gt0.true c.requires.level c.requires.run in
+    (omega (arith, c.decreases, c.if-i-gt0.true), (omega (arith, c.requires.level), (omega (arith, below), omega (arith, size, places c.args.i c.args.q c.if-i-gt0.true, c.requires.fits))))
 
 pub returns-then-i-gt0-clause-weights : goal.returns-then-i-gt0-clause-weights
 returns-then-i-gt0-clause-weights t c =

@@ -1,6 +1,11 @@
-use Rattle.par2_transform.proofs.Names.{◌∙◌, ◌≡◌, ap, arith, length, lists_of, Places, quotient_word, are_whole, begins, next_words, all_words}
-use Rattle.par2_transform.proofs.Additions.{columns_within}
+use Rattle.par2_transform.proofs.Names.{◌∙◌, ◌≡◌, List, AreApart, Place, ap, arith, columns_within, length, lists_of, no_words, Places, quotient_word, are_whole, begins, next_words, all_words, subst, sym, whole_apart}
 use Rattle.par2_transform.proofs.locator.Locator.add_quotient_sums.Goals as goal
+
+pub new-outputs-requires : goal.new-outputs-requires
+new-outputs-requires c = record { apart = subst (λ (ps : List Place). AreApart c.args.words ps) (sym c.deref.ensures.value) (whole_apart c.args.words _ c.in_ok-places.places.items c.in_ok-places.ensures) }
+
+pub loop-k-init : goal.loop-k-init
+loop-k-init c = record { levels = c.in_ok-rows.ensures.levels; words = c.in_ok-rows.ensures.words; added = no_words c.new-outputs.result c.columns_for-width.result (quotient_word c.args.self.now c.args.sources.now) (lists_of c.args.buffers.now) }
 
 pub columns-columns-requires : goal.columns-columns-requires
 columns-columns-requires c = begins c.new-outputs.result.words c.columns_for-width.result c.loop-k.k c.div_ceil-k-end.result c.columns_for-width.ensures.few.0 c.div_ceil-k-end.ensures c.loop-k-test.true
@@ -10,11 +15,7 @@ loop-k-preserved c =
     let is = c.columns-columns.ensures in
     let e = c.add_columns.ensures in
     let low = begins c.new-outputs.result.words c.columns_for-width.result c.loop-k.k c.div_ceil-k-end.result c.columns_for-width.ensures.few.0 c.div_ceil-k-end.ensures c.loop-k-test.true in
-    record {
-      levels = e.size.levels ∙ c.loop-k.invariant.levels;
-      words = e.size.words ∙ c.loop-k.invariant.words;
-      added = next_words c.new-outputs.result c.columns-columns.result c.columns_for-width.result c.loop-k.k (quotient_word c.args.self.now c.args.sources.now) _ _ _ c.loop-k.invariant.added low is.outputs is.from is.to e.added;
-    }
+    record { levels = e.size.levels ∙ c.loop-k.invariant.levels; words = e.size.words ∙ c.loop-k.invariant.words; added = next_words c.new-outputs.result c.columns-columns.result c.columns_for-width.result c.loop-k.k (quotient_word c.args.self.now c.args.sources.now) _ _ _ c.loop-k.invariant.added low is.outputs is.from is.to e.added }
 
 pub returns : goal.returns
 returns c =

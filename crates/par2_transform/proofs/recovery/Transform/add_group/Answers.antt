@@ -1,4 +1,4 @@
-use Rattle.par2_transform.proofs.Names.{rules, List, ℕ, Adds, ◌≡◌, ◌+◌, ◌∙◌, sym, subst, arith, length, with_items_is, lists_of, CoverOutputs, cut_of, recovered, Places, begins, no_words, next_words, all_words}
+use Rattle.par2_transform.proofs.Names.{List, ℕ, Adds, ◌≡◌, ◌+◌, ◌∙◌, sym, subst, arith, length, with_items_is, lists_of, CoverOutputs, cut_of, recovered, Places, begins, no_words, next_words, all_words, columns_within}
 use Rattle.par2_transform.proofs.recovery.Transform.add_group.Goals as goal
 
 pub columns-columns-requires : goal.columns-columns-requires
@@ -24,8 +24,7 @@ loop-k-preserved c =
     let blocks = c.add_classes.new.blocks in
     let is = c.columns-columns.ensures in
     let e = c.add_classes.ensures in
-    let size : length blocks ≡ l.blocks.len = search rules in
-    let after = with_items_is l.blocks blocks size in
+    let after = with_items_is l.blocks blocks (c.add_classes.auto.blocks ∙ c.as_mut_slice.ensures.len) in
     let low = begins c.args.outputs.now.words plan.columns l.k c.div_ceil-k-end.result (let some = plan.some.1.1 in omega (arith, some)) c.div_ceil-k-end.ensures c.loop-k-test.true in
     record {
       rows = e.ready.size;
@@ -43,3 +42,15 @@ returns c =
     subst (λ (xs : List (List ℕ)). Adds c.args.outputs.now (λ t p. recovered xs (c.args.first + t) p) c.args.buffers.now l.buffers) c.in_ok-windows.ensures.slices
     (subst (λ (n : ℕ). Adds c.args.outputs.now (λ t p. recovered self.slices (n + t) p) c.args.buffers.now l.buffers) c.in_ok-windows.ensures.first
     (all_words c.args.outputs.now self.plan.columns l.k (λ t p. recovered self.slices (self.first + t) p) (lists_of c.args.buffers.now) (lists_of l.buffers) (let some = self.plan.some.1.1 in omega (arith, some)) (end ∙ c.div_ceil-k-end.ensures) l.invariant.added))
+
+pub add_classes-requires-clause-ready : goal.add_classes-requires-clause-ready
+add_classes-requires-clause-ready c =
+    let self = c.in_ok-windows.windows in
+    let covers = CoverOutputs (cut_of self.plan) self.plan.columns self.first self.plan.block in
+    let blocks = subst (covers (length c.args.outputs.now.places.now)) (sym c.as_mut_slice.ensures.value) c.loop-k.invariant.cover in
+    record { size = c.loop-k.invariant.rows; cover = subst (λ (o : Places). covers (length o.places.now) c.as_mut_slice.result.now) (sym c.columns-columns.ensures.outputs) blocks }
+
+pub add_classes-requires-clause-fits : goal.add_classes-requires-clause-fits
+add_classes-requires-clause-fits c =
+    let is = c.columns-columns.ensures in
+    record { narrow = omega (arith, is.from, is.to); room = columns_within c.args.outputs.now c.columns-columns.result _ (lists_of c.args.buffers.now) (lists_of c.loop-k.buffers) is.outputs c.loop-k.invariant.added c.requires.room }

@@ -1,5 +1,4 @@
-use Rattle.par2_transform.proofs.Names.{rules, ◌^◌, ◌<◌, ◌≡◌, ◌+◌, ◌*◌, ◌∙◌, arith, ap, ap₂, sym, subst, refl, List, ℕ, length, with_items_is, mul, word, word_in, word_of, AddsToRun, IsAdded, WordVector, added_same, place_is, rewritten_none, rewritten_then, row_added, rows_fit, run_next, word_at}
-use Rattle.par2_transform.proofs.GridLaws.{run_none}
+use Rattle.par2_transform.proofs.Names.{◌^◌, ◌<◌, ◌≡◌, ◌+◌, ◌*◌, ◌∙◌, arith, ap, ap₂, sym, subst, refl, List, ℕ, length, with_items_is, mul, word, word_in, word_of, AddsToRun, IsAdded, WordVector, added_same, place_is, rewritten_none, rewritten_then, run_none, row_added, rows_fit, run_next, word_at, kept_rows}
 use Rattle.par2_transform.proofs.rows.Rows.add_bytes.Goals as goal
 
 pub loop-k-init : goal.loop-k-init
@@ -8,9 +7,8 @@ loop-k-init c =
     let start = c.place-start.result in
     let was = c.as_mut_slice-vectors.result.now in
     let source = c.copy_padded.new.to in
-    let wide : length source ≡ inside.source.len = search rules in
     let words : length source ≡ 64 * inside.width = c.copy_padded.ensures.size ∙ ap (λ (xs : List ℕ). length xs) c.as_mut_slice.ensures.value ∙ c.self.invariant.1 in
-    let all = ap (λ (xs : List ℕ). length xs) (c.as_slice-source.ensures.value ∙ with_items_is inside.source source wide) in
+    let all = ap (λ (xs : List ℕ). length xs) (c.as_slice-source.ensures.value ∙ with_items_is inside.source source (c.copy_padded.ensures.size ∙ c.as_mut_slice.ensures.len)) in
     let size = ap (λ (xs : List WordVector). length xs) c.as_mut_slice-vectors.ensures.value in
     let start_is = place_is c.args.to inside.width start (rw (← c.self.view_is) at c.place-start.ensures) in
     let place : c.args.to < 2 ^ inside.levels = rw (← c.self.view_is) at c.requires.place in
@@ -38,18 +36,22 @@ returns c =
     let l = c.loop-k in
     let new = l.vectors in
     let end : l.k ≡ inside.width = omega (arith, c.loop-k-test.false, l.auto.k-end) in
-    let size : length new ≡ inside.vectors.len = search rules in
     let by = mul c.args.factor.now in
     let start = c.place-start.result in
     let source = c.copy_padded.new.to in
     let copied = c.copy_padded.ensures.same in
-    let wide : length source ≡ inside.source.len = search rules in
     let words : length source ≡ 64 * inside.width = c.copy_padded.ensures.size ∙ ap (λ (xs : List ℕ). length xs) c.as_mut_slice.ensures.value ∙ c.self.invariant.1 in
     let bytes = c.as_slice-source.result.now in
     let added = subst (λ (n : ℕ). AddsToRun (32 * start) (32 * n) (λ e. by (word e bytes)) (word_of old) (word_of new)) end (subst (λ (xs : List WordVector). AddsToRun (32 * start) (32 * l.k) (λ e. by (word e bytes)) (word_of xs) (word_of new)) c.as_mut_slice-vectors.ensures.value l.invariant.1.1.1) in
     rw (← c.self.view_is)
     (added_same
-    (subst (λ (xs : List WordVector). IsAdded (record { levels = inside.levels; words = 32 * inside.width; vectors = old }) (record { levels = inside.levels; words = 32 * inside.width; vectors = xs }) c.args.to (λ e. by (word e bytes))) (sym (with_items_is inside.vectors new size))
+    (subst (λ (xs : List WordVector). IsAdded (record { levels = inside.levels; words = 32 * inside.width; vectors = old }) (record { levels = inside.levels; words = 32 * inside.width; vectors = xs }) c.args.to (λ e. by (word e bytes))) (sym (with_items_is inside.vectors new (l.auto.vectors ∙ c.as_mut_slice-vectors.ensures.len)))
     (row_added inside.levels (32 * inside.width) c.args.to (32 * start) (32 * inside.width) (λ e. by (word e bytes)) old new (rw (← c.self.view_is) at c.place-start.ensures) refl added))
-    (λ k h. ap by (ap (word k) (c.as_slice-source.ensures.value ∙ with_items_is inside.source source wide)
+    (λ k h. ap by (ap (word k) (c.as_slice-source.ensures.value ∙ with_items_is inside.source source (c.copy_padded.ensures.size ∙ c.as_mut_slice.ensures.len))
     ∙ ap₂ (λ x y. x + 256 * y) (copied (2 * k) (omega (arith, words, h, c.copy_padded.ensures.size))) (copied (2 * k + 1) (omega (arith, words, h, c.copy_padded.ensures.size))))))
+
+pub invariant_of-self : goal.invariant_of-self
+invariant_of-self c =
+    let inside = c.self.inside in
+    let source = ap (λ (xs : List ℕ). length xs) (with_items_is inside.source c.copy_padded.new.to (c.copy_padded.ensures.size ∙ c.as_mut_slice.ensures.len)) ∙ c.copy_padded.ensures.size ∙ ap (λ (xs : List ℕ). length xs) c.as_mut_slice.ensures.value ∙ c.self.invariant.1 in
+    (kept_rows _ _ inside.vectors _ c.loop-k.vectors c.self.invariant.0 c.as_mut_slice-vectors.ensures.value c.loop-k.invariant.1.1.0 (c.loop-k.auto.vectors ∙ c.as_mut_slice-vectors.ensures.len), source)

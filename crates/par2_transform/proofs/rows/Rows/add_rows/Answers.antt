@@ -1,5 +1,4 @@
-use Rattle.par2_transform.proofs.Names.{rules, arith, inl, inr, ℕ, ◌≡◌, ◌≤◌, ◌<◌, ◌+◌, ◌*◌, ◌∙◌, ap, sym, subst, List, length, with_items_is, word_in, word_of, times, AreTwoRuns, EachColumn, RunAddedBy, WordVector, in_vector, place_runs, rewritten_none, rewritten_then, run_added, run_next}
-use Rattle.par2_transform.proofs.GridLaws.{run_none}
+use Rattle.par2_transform.proofs.Names.{arith, inl, inr, ℕ, ◌≡◌, ◌≤◌, ◌<◌, ◌+◌, ◌*◌, ◌∙◌, ap, sym, subst, List, length, with_items_is, word_in, word_of, times, AreTwoRuns, EachColumn, RunAddedBy, WordVector, in_vector, place_runs, rewritten_none, rewritten_then, run_none, run_added, run_next, kept_rows}
 use Rattle.par2_transform.proofs.rows.Rows.add_rows.Goals as goal
 
 pub loop-k-init : goal.loop-k-init
@@ -36,7 +35,6 @@ returns c =
     let old = inside.vectors.items in
     let l = c.loop-k in
     let new = l.vectors in
-    let size : length new ≡ inside.vectors.len = search rules in
     let by = times c.args.by in
     let from = c.place-from.result in
     let to = c.place-to.result in
@@ -44,6 +42,9 @@ returns c =
     let end : l.k ≡ count = omega (arith, c.loop-k-test.false, l.auto.k-end) in
     let added = subst (λ (n : ℕ). RunAddedBy by (32 * from) (32 * to) (32 * n) (word_of old) (word_of new)) end (subst (λ (xs : List WordVector). RunAddedBy by (32 * from) (32 * to) (32 * l.k) (word_of xs) (word_of new)) c.as_mut_slice-vectors.ensures.value l.invariant.1.1) in
     rw (← c.self.view_is)
-    (subst (λ (xs : List WordVector). EachColumn (RunAddedBy by c.args.from c.args.to c.args.count) (record { levels = inside.levels; words = 32 * inside.width; vectors = old }) (record { levels = inside.levels; words = 32 * inside.width; vectors = xs })) (sym (with_items_is inside.vectors new size))
+    (subst (λ (xs : List WordVector). EachColumn (RunAddedBy by c.args.from c.args.to c.args.count) (record { levels = inside.levels; words = 32 * inside.width; vectors = old }) (record { levels = inside.levels; words = 32 * inside.width; vectors = xs })) (sym (with_items_is inside.vectors new (l.auto.vectors ∙ c.as_mut_slice-vectors.ensures.len)))
     (run_added by inside.levels (32 * inside.width) c.args.from c.args.to c.args.count (32 * from) (32 * to) (32 * count) old new
     (rw (← c.self.view_is) at c.place-from.ensures) (rw (← c.self.view_is) at c.place-to.ensures) (rw (← c.self.view_is) at c.place-count.ensures) added))
+
+pub invariant_of-self : goal.invariant_of-self
+invariant_of-self c = (kept_rows _ _ c.self.inside.vectors _ c.loop-k.vectors c.self.invariant.0 c.as_mut_slice-vectors.ensures.value c.loop-k.invariant.1.0 (c.loop-k.auto.vectors ∙ c.as_mut_slice-vectors.ensures.len), c.self.invariant.1)

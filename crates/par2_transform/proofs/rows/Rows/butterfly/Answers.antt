@@ -1,4 +1,4 @@
-use Rattle.par2_transform.proofs.Names.{rules, arith, ℕ, ◌≡◌, ◌≤◌, ◌+◌, ◌*◌, ◌∙◌, ap, sym, subst, List, length, with_items_is, mul, word_in, word_of, EachColumn, IsButterfly, WordVector, in_vector, butterfly_at, butterfly_runs, run_same, butterfly_added, butterfly_next, butterfly_none, place_is, rewritten_none, rewritten_then, rows_before, rows_fit}
+use Rattle.par2_transform.proofs.Names.{arith, ℕ, ◌≡◌, ◌≤◌, ◌+◌, ◌*◌, ◌∙◌, ap, sym, subst, List, length, with_items_is, mul, word_in, word_of, EachColumn, IsButterfly, WordVector, in_vector, butterfly_at, butterfly_runs, run_same, butterfly_added, butterfly_next, butterfly_none, place_is, rewritten_none, rewritten_then, rows_before, rows_fit, kept_rows}
 use Rattle.par2_transform.proofs.rows.Rows.butterfly.Goals as goal
 
 pub loop-k-init : goal.loop-k-init
@@ -53,7 +53,6 @@ returns c =
     let old = inside.vectors.items in
     let l = c.loop-k in
     let new = l.vectors in
-    let size : length new ≡ inside.vectors.len = search rules in
     let by = mul c.args.factor.now in
     let low = c.place-low.result in
     let high = c.place-high.result in
@@ -61,6 +60,9 @@ returns c =
     let end : l.k ≡ count = omega (arith, c.loop-k-test.false, l.auto.k-end) in
     let added = subst (λ (n : ℕ). IsButterfly by (32 * low) (32 * high) (32 * n) (word_of old) (word_of new)) end (subst (λ (xs : List WordVector). IsButterfly by (32 * low) (32 * high) (32 * l.k) (word_of xs) (word_of new)) c.as_mut_slice-vectors.ensures.value l.invariant.1.1.1) in
     rw (← c.self.view_is)
-    (subst (λ (xs : List WordVector). EachColumn (IsButterfly by c.args.low c.args.high c.args.count) (record { levels = inside.levels; words = 32 * inside.width; vectors = old }) (record { levels = inside.levels; words = 32 * inside.width; vectors = xs })) (sym (with_items_is inside.vectors new size))
+    (subst (λ (xs : List WordVector). EachColumn (IsButterfly by c.args.low c.args.high c.args.count) (record { levels = inside.levels; words = 32 * inside.width; vectors = old }) (record { levels = inside.levels; words = 32 * inside.width; vectors = xs })) (sym (with_items_is inside.vectors new (l.auto.vectors ∙ c.as_mut_slice-vectors.ensures.len)))
     (butterfly_added by inside.levels (32 * inside.width) c.args.low c.args.high c.args.count (32 * low) (32 * high) (32 * count) old new
     (rw (← c.self.view_is) at c.place-low.ensures) (rw (← c.self.view_is) at c.place-high.ensures) (rw (← c.self.view_is) at c.place-count.ensures) added))
+
+pub invariant_of-self : goal.invariant_of-self
+invariant_of-self c = (kept_rows _ _ c.self.inside.vectors _ c.loop-k.vectors c.self.invariant.0 c.as_mut_slice-vectors.ensures.value c.loop-k.invariant.1.1.0 (c.loop-k.auto.vectors ∙ c.as_mut_slice-vectors.ensures.len), c.self.invariant.1)

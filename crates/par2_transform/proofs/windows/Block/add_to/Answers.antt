@@ -1,5 +1,4 @@
-use Rattle.par2_transform.proofs.Names.{arith, ap₂, ◌∙◌, ◌≡◌, ◌+◌, ◌*◌, ◌<◌, ◌≤◌, ◌^◌, ap, subst, mul, pow, pow_mono, lists_of, Outputs, chirp_inverse, EachColumn, ArePowerSums, cut_of, next_output}
-use Rattle.par2_transform.proofs.Common.{mul-le-mul_right}
+use Rattle.par2_transform.proofs.Names.{arith, ap₂, ◌∙◌, ◌≡◌, ◌+◌, ◌*◌, ◌<◌, ◌≤◌, ◌^◌, ap, subst, mul, pow, pow_mono, lists_of, Outputs, chirp_inverse, EachColumn, ArePowerSums, cut_of, next_output, ◌-◌, min, mul-le-mul_right, all_outputs, still_within}
 use Rattle.par2_transform.proofs.windows.Block.add_to.Goals as goal
 
 pub loop-t-preserved : goal.loop-t-preserved
@@ -23,3 +22,14 @@ overflow_mul-e c =
     let low : c.self.inside.exponent + c.loop-t.t ≤ 2 ^ 40 = omega (arith, c.self.invariant, points, plan.fit, c.loop-t-test.true, c.min-t-end.ensures) in
     let most : (c.self.inside.exponent + c.loop-t.t) * c.args.class.now.number ≤ 2 ^ 40 * c.args.class.now.number = mul-le-mul_right c.args.class.now.number low in
     omega (arith, most, c.args.class.now.known, plan.few_classes)
+
+pub add_products-requires-clause-room : goal.add_products-requires-clause-room
+add_products-requires-clause-room c = still_within c.args.columns.now.outputs.places.now _ _ _ (lists_of c.args.buffers.now) (lists_of c.loop-t.buffers) c.loop-t.invariant c.requires.fits.room
+
+pub returns-clause-added : goal.returns-clause-added
+returns-clause-added c =
+    let outputs = c.args.columns.now.outputs in
+    let end : c.loop-t.t ≡ c.min-t-end.result = omega (arith, c.loop-t-test.false, c.loop-t.auto.t-end) in
+    let left = c.saturating_sub-left.ensures ∙ ap (λ n. n - c.args.first) c.len.ensures in
+    all_outputs outputs.places.now outputs.words (cut_of c.args.class.now.plan) c.args.self.now.sums c.args.self.now.exponent c.args.class.now.number c.args.columns.now.from c.args.columns.now.to c.args.first c.args.class.now.plan.block c.loop-t.t
+    (lists_of c.args.buffers.now) (lists_of c.loop-t.buffers) (end ∙ c.min-t-end.ensures ∙ ap (min c.args.class.now.plan.block) left) c.loop-t.invariant
