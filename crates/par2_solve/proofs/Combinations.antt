@@ -1,5 +1,5 @@
 -- Sums of products: from added products to recovery slices, sums of sums, and the loops that add products.
-use Rattle.par2_solve.proofs.Common.{constant, pow, length-constant_powers, constant_powers, ℕ, zero, suc, ◌+◌, ◌-◌, ◌*◌, ◌%◌, ◌<◌, ◌≤◌, ◌≡◌, refl, sym, ap, ap₂, ◌∙◌, subst, arith, List, [], ◌∷◌, ◌++◌, length, get_or, map, replicate, Vec, Global, zero-add, Bor, range_with_len, get_or-map, length-map, get_or_past, get_or-map-range_with_len, length-map-range_with_len, length-range_with_len, mul, coefficient, padded, word, dot, coefficients, combination, recovery, all_at, product-lt, field_sum, list_at, lists_of, field_sum_same, field_sum-lt, dot_sum, product_at, coefficients_are, combination_words, word-lt, AreByteLists, recovered, zeros_read, byte_lists, bit_xor, product_linear_left, product_assoc, zero-product, field_sum_none, field_sum_xor, field_sum_scaled, GivesElements, inl, inr, cases_lt, xor_assoc, xor_zero_r, product-zero, AddsSource, Adds, products, by_either, take, drop, within-in, cases_eq}
+use Rattle.par2_solve.proofs.Common.{constant, pow, length-constant_powers, constant_powers, ℕ, zero, suc, ◌+◌, ◌-◌, ◌*◌, ◌%◌, ◌<◌, ◌≤◌, ◌≡◌, refl, sym, ap, ap₂, ◌∙◌, subst, arith, List, [], ◌∷◌, ◌++◌, length, get_or, map, replicate, Vec, Global, zero-add, Bor, range_with_len, get_or-map, length-map, get_or_past, get_or-map-range_with_len, length-map-range_with_len, length-range_with_len, mul, coefficient, padded, word, dot, coefficients, combination, recovery, all_at, product-lt, field_sum, list_at, lists_of, field_sum_same, field_sum-lt, dot_sum, product_at, coefficients_are, combination_words, word-lt, AreByteLists, recovered, zeros_read, byte_lists, bit_xor, product_linear_left, product_assoc, zero-product, field_sum_none, field_sum_xor, field_sum_scaled, GivesElements, inl, inr, cases_lt, xor_assoc, xor_zero_r, product-zero, AddsSource, Adds, products, by_either, take, drop, within-in, cases_eq, get_or_push, get_or_append_left}
 use borrow.Rule.Slice.PartMut.{put_mid}
 use Rattle.par2_gf16.specs.Tables.{AddsTo}
 use Rattle.par2_gf16.specs.Words.{AddsEach, word_of}
@@ -93,6 +93,13 @@ rows_long n exponents xs e r low =
 
 pub length-byte_lists : (xs : List (Bor (List ℕ))) → length (byte_lists xs) ≡ length xs
 length-byte_lists xs = length-map xs (λ (x : Bor (List ℕ)). x.now)
+
+-- what holds of each item of a list and of one item more
+pub each_more : {A : Type 0} (P : ℕ → A → Type 0) (d : A) (xs : List A) (x : A) (n : ℕ) → length xs ≡ n → ((i : ℕ) → i < n → P i (get_or xs i d)) → P n x
+    → (i : ℕ) → i < n + 1 → P i (get_or (xs ++ x ∷ []) i d)
+each_more P d xs x n many each here i low = by_either (cases_eq n i)
+    (λ same. subst (λ m. P m (get_or (xs ++ x ∷ []) m d)) same (subst (P n) (sym (get_or_push xs x d n many)) here))
+    (λ other. let before : i < n = omega (arith, low, other) in subst (P i) (sym (get_or_append_left xs (x ∷ []) d i (omega (arith, many, before)))) (each i before))
 
 -- Sums of sums.
 
