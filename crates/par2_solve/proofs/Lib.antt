@@ -5,3 +5,4 @@ pub mod RunInverses
 pub mod Rebuilding
 pub mod Windows
 pub mod Inverting
+mod Names

@@ -7,7 +7,7 @@ use Rattle.par2_solve.specs.declared.exponents.Lost.{Lost}
 use Rattle.par2_spec.specs.Prelude.{AreElements}
 use Rattle.par2_spec.proofs.ListsLaws.{all-drop}
 use Rattle.par2_spec.proofs.ExistLaws.{IsSolved, solved}
-use Rattle.par2_solve.proofs.Combinations.{coefficients-lt, combined}
+use Rattle.par2_solve.proofs.Combinations.{coefficients-lt, combined, each_more}
 use Rattle.par2_solve.proofs.Inverting.{identity-lt, sum_of_row}
 use Rattle.par2_solve.specs.BufferContents.{AreFactors, locator}
 use Rattle.par2_transform.specs.Locators.{quotient_coefficient}
@@ -481,17 +481,11 @@ factor_is ks f j points p derivatives is p_is each low =
 pub more_factors : (f : ℕ) (ks factors new : List ℕ) (n b : ℕ) → AreFactors f ks factors n → new ≡ factors ++ b ∷ [] → b < 2 ^ 16 → (let c = constant (get_or ks n 0) in mul (mul (pow c f) (value (quotient c (locator ks)) c)) b ≡ 1) → AreFactors f ks new (n + 1)
 more_factors f ks factors new n b before is small inverse =
     let value_at : ℕ → ℕ = λ j. let c = constant (get_or ks j 0) in mul (pow c f) (value (quotient c (locator ks)) c) in
-    let earlier : (j : ℕ) → j < n → get_or new j 0 ≡ get_or factors j 0 = λ j early. ap (λ xs. get_or xs j 0) is ∙ get_or_append_left factors (b ∷ []) 0 j (omega (arith, early, before.count)) in
-    let last : (j : ℕ) → n ≡ j → get_or new j 0 ≡ b = λ j same. ap (λ xs. get_or xs j 0) is ∙ get_or_push factors b 0 j (before.count ∙ same) in
-    record {
-      count = ap length is ∙ length_push factors b ∙ ap (λ m. m + 1) before.count;
-      small = λ j low. by_either (cases_lt j n)
-          (λ early. subst (λ x. x < 2 ^ 16) (sym (earlier j early)) (before.small j early))
-          (λ late. subst (λ x. x < 2 ^ 16) (sym (last j (omega (arith, low, late)))) small);
-      each = λ j low. by_either (cases_lt j n)
-          (λ early. ap (mul (value_at j)) (earlier j early) ∙ before.each j early)
-          (λ late. (let same : n ≡ j = omega (arith, low, late) in ap (mul (value_at j)) (last j same) ∙ subst (λ k. mul (value_at k) b ≡ 1) same inverse));
-    }
+    subst (λ xs. AreFactors f ks xs (n + 1)) (sym is) (record {
+      count = length_push factors b ∙ ap (λ m. m + 1) before.count;
+      small = each_more (λ j x. x < 2 ^ 16) 0 factors b n before.count before.small small;
+      each = each_more (λ j x. mul (value_at j) x ≡ 1) 0 factors b n before.count before.each inverse;
+    })
 
 -- a locator's sequence has as many elements as slices are lost
 pub located_wide : (ks : List ℕ) → length (drop 1 (with_roots (map constant ks))) ≡ length ks

@@ -1,6 +1,4 @@
-use Rattle.par2_solve.proofs.Common.{◌∙◌, sym, ap, arith, length, length-map, coefficients, range_with_len, lists_of, products, byte_lists}
-use Rattle.par2_solve.proofs.Inverting.{products_are, next_columns, all_columns_added, sums_are, many_windows}
-use Rattle.par2_solve.proofs.Combinations.{length-byte_lists, rows_long}
+use Rattle.par2_solve.proofs.Names.{all_columns_added, ap, arith, byte_lists, coefficients, length, length-byte_lists, length-map, lists_of, many_windows, next_columns, products, products_are, range_with_len, rows_long, sums_are, sym, ◌∙◌}
 use Rattle.par2_solve.proofs.additions.add_as_sums.Goals as goal
 
 pub products_of-requires : goal.products_of-requires

@@ -1,5 +1,4 @@
-use Rattle.par2_solve.proofs.Common.{◌≤◌, arith, length, lists_of, byte_lists}
-use Rattle.par2_solve.proofs.Inverting.{adds_group}
+use Rattle.par2_solve.proofs.Names.{adds_group, arith, byte_lists, length, lists_of, ◌≤◌}
 use Rattle.par2_solve.proofs.additions.add_by_groups.Goals.{After-group_end-to}
 use Rattle.par2_solve.proofs.additions.add_by_groups.Goals as goal
 

@@ -1,4 +1,4 @@
-use Rattle.par2_solve.proofs.Common.{◌+◌, ◌≡◌, ◌∙◌, ap, sym, arith, rules, length, get_or, lists_of, byte_lists, recovered, adds_same, IfOk-weaker}
+use Rattle.par2_solve.proofs.Names.{IfOk-weaker, adds_same, ap, arith, byte_lists, get_or, length, lists_of, recovered, rules, sym, ◌+◌, ◌∙◌, ◌≡◌}
 use Rattle.par2_solve.proofs.additions.add_group.Goals as goal
 
 pub add_recovery_slices_at-requires-clause-exponents : goal.add_recovery_slices_at-requires-clause-exponents

@@ -1,6 +1,4 @@
-use Rattle.par2_solve.proofs.Common.{◌≡◌, ◌∙◌, rules, ap, length, get_or, lists_of, byte_lists, with_items_is}
-use Rattle.par2_solve.specs.BufferContents.{picked}
-use Rattle.par2_solve.proofs.Inverting.{picked_sizes, span_added}
+use Rattle.par2_solve.proofs.Names.{ap, byte_lists, get_or, length, lists_of, picked, picked_sizes, rules, span_added, with_items_is, ◌∙◌, ◌≡◌}
 use Rattle.par2_solve.proofs.additions.add_over_span.Goals as goal
 use Rattle.par2_solve.proofs.additions.add_over_span.Goals.{In_ok-sums}
 

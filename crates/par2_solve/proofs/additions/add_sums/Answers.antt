@@ -1,5 +1,4 @@
-use Rattle.par2_solve.proofs.Common.{lists_of}
-use Rattle.par2_solve.proofs.Inverting.{next_sum}
+use Rattle.par2_solve.proofs.Names.{lists_of, next_sum}
 use Rattle.par2_solve.proofs.additions.add_sums.Goals as goal
 
 pub loop-t-preserved : goal.loop-t-preserved

@@ -1,4 +1,4 @@
-use Rattle.par2_solve.proofs.Common.{inl, inr, arith}
+use Rattle.par2_solve.proofs.Names.{arith, inl, inr}
 use Rattle.par2_solve.proofs.additions.group_end.Goals as goal
 
 pub returns-then-are_together-clause-room : goal.returns-then-are_together-clause-room

@@ -1,4 +1,4 @@
-use Rattle.par2_solve.proofs.Common.{ℕ, zero, suc, ◌+◌, ◌-◌, ◌≡◌, ◌∙◌, refl, rules, ap, arith, map, ◌∷◌, range_with_len, items_from_collect, YieldsList-from_map, YieldsList-from_range}
+use Rattle.par2_solve.proofs.Names.{YieldsList-from_map, YieldsList-from_range, ap, arith, items_from_collect, map, range_with_len, refl, rules, suc, zero, ℕ, ◌+◌, ◌-◌, ◌∙◌, ◌∷◌, ◌≡◌}
 use Rattle.par2_solve.proofs.additions.numbers_from.Goals as goal
 
 moved : (a b n : ℕ) → map (λ k. a + k) (range_with_len b n) ≡ range_with_len (a + b) n

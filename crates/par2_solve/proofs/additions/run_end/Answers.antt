@@ -1,4 +1,4 @@
-use Rattle.par2_solve.proofs.Common.{by_either, rules, ◌≡◌, ◌+◌, ◌-◌, inl, inr, arith, cases_lt}
+use Rattle.par2_solve.proofs.Names.{arith, by_either, cases_lt, inl, inr, rules, ◌+◌, ◌-◌, ◌≡◌}
 use Rattle.par2_solve.proofs.additions.run_end.Goals as goal
 
 pub loop-end-preserved : goal.loop-end-preserved

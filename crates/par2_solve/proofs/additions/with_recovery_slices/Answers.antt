@@ -1,8 +1,4 @@
-use Rattle.par2_solve.proofs.Common.{AddsToEach, Bor, Global, List, Vec, [], ap, ap₂, arith, get_or, length, length-lists_of, lists_of, byte_lists, map-append, recovered, rules, subst, sym, take, take_all, take_more, with_items_is, ℕ, ◌++◌, ◌<◌, ◌∙◌, ◌∷◌, ◌≡◌}
-use Rattle.par2_transform.specs.Rows.{AreWholeBuffers, HaveWords}
-use Rattle.par2_transform.specs.declared.outputs.Place.{Place}
-use Rattle.par2_transform.proofs.Additions.{AreWhole, are_whole}
-use Rattle.par2_solve.proofs.Combinations.{length-byte_lists}
+use Rattle.par2_solve.proofs.Names.{AddsToEach, AreWhole, AreWholeBuffers, Bor, Global, HaveWords, List, Place, Vec, [], ap, ap₂, are_whole, arith, byte_lists, get_or, length, length-byte_lists, length-lists_of, lists_of, map-append, recovered, rules, subst, sym, take, take_all, take_more, with_items_is, ℕ, ◌++◌, ◌<◌, ◌∙◌, ◌∷◌, ◌≡◌}
 use Rattle.par2_solve.proofs.additions.with_recovery_slices.Goals.{After-as_mut_slice}
 use Rattle.par2_solve.proofs.additions.with_recovery_slices.Goals as goal
 

@@ -1,5 +1,4 @@
-use Rattle.par2_solve.proofs.Common.{lists_of, byte_lists}
-use Rattle.par2_solve.proofs.Inverting.{are_written}
+use Rattle.par2_solve.proofs.Names.{are_written, byte_lists, lists_of}
 use Rattle.par2_solve.proofs.additions.write_recovery_slices.Goals as goal
 
 pub returns : goal.returns

@@ -1,6 +1,4 @@
-use Rattle.par2_solve.proofs.Common.{◌≡◌, IfOk-weaker, rank}
-use Rattle.std.proofs.lemmas.Option.{MatchOption-at_some}
-use Rattle.par2_spec.proofs.FullRank.{rank-le, full-iff}
+use Rattle.par2_solve.proofs.Names.{IfOk-weaker, MatchOption-at_some, full-iff, rank, rank-le, ◌≡◌}
 use Rattle.par2_solve.proofs.exponents.rank.Goals as goal
 
 pub returns-in-Some : goal.returns-in-Some

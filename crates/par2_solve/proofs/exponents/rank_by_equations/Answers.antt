@@ -1,5 +1,4 @@
-use Rattle.par2_solve.proofs.Common.{rules, sym}
-use Rattle.par2_spec.proofs.FullRank.{full-iff}
+use Rattle.par2_solve.proofs.Names.{full-iff, rules, sym}
 use Rattle.par2_solve.proofs.exponents.rank_by_equations.Goals as goal
 
 pub returns-then-branch : goal.returns-then-branch

@@ -1,4 +1,4 @@
-use Rattle.par2_solve.proofs.Common.{rules, sym, ap, length, IsTrue, close_kept, run_rank}
+use Rattle.par2_solve.proofs.Names.{IsTrue, ap, close_kept, length, rules, run_rank, sym}
 use Rattle.par2_solve.proofs.exponents.rank_by_runs.Goals as goal
 
 pub returns-then-are_close : goal.returns-then-are_close

@@ -1,6 +1,4 @@
-use Rattle.par2_solve.proofs.Common.{rules, ap, List, ℕ, ◌≡◌, ◌+◌, ◌≤◌, ◌∙◌, arith, sym, subst, length, eqb-true, IsTrue, IsRepairable}
-use Rattle.par2_solve.specs.BufferContents.{AreHoleEquations, holes, locator, span}
-use Rattle.par2_solve.proofs.Windows.{holes_determine, more_determine, only_zero_fits}
+use Rattle.par2_solve.proofs.Names.{AreHoleEquations, IsRepairable, IsTrue, List, ap, arith, eqb-true, holes, holes_determine, length, locator, more_determine, only_zero_fits, rules, span, subst, sym, ℕ, ◌+◌, ◌∙◌, ◌≡◌, ◌≤◌}
 use Rattle.par2_solve.proofs.holes.determine.Goals as goal
 
 pub returns-in-Some-2 : goal.returns-in-Some-2

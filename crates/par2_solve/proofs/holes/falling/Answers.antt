@@ -1,5 +1,4 @@
-use Rattle.par2_solve.proofs.Common.{rules, arith, List, ℕ, ◌-◌, ◌≡◌, ◌∙◌, ap, map, range_with_len, slice_index, YieldsList-from_map, YieldsList-from_range, items_from_collect}
-use Rattle.std.specs.Prelude.{Ok, reverse}
+use Rattle.par2_solve.proofs.Names.{List, Ok, YieldsList-from_map, YieldsList-from_range, ap, arith, items_from_collect, map, range_with_len, reverse, rules, slice_index, ℕ, ◌-◌, ◌∙◌, ◌≡◌}
 use Rattle.par2_solve.proofs.holes.falling.Goals as goal
 
 pub returns : goal.returns

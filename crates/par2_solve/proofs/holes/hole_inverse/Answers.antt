@@ -1,6 +1,4 @@
-use Rattle.par2_solve.proofs.Common.{◌^◌, ◌<◌, ◌≡◌, arith, lists_of, length-lists_of, all_from, Fits-lt-pow}
-use Rattle.par2_solve.specs.BufferContents.{AreHoleEquations}
-use Rattle.par2_solve.proofs.Windows.{are_hole_inverse}
+use Rattle.par2_solve.proofs.Names.{AreHoleEquations, Fits-lt-pow, all_from, are_hole_inverse, arith, length-lists_of, lists_of, ◌<◌, ◌^◌, ◌≡◌}
 use Rattle.par2_solve.proofs.holes.hole_inverse.Goals as goal
 
 pub returns-in-Ok : goal.returns-in-Ok

@@ -1,5 +1,4 @@
-use Rattle.par2_solve.proofs.Common.{◌∙◌, ap, Ok}
-use Rattle.par2_solve.proofs.Windows.{one_equation_more}
+use Rattle.par2_solve.proofs.Names.{Ok, ap, one_equation_more, ◌∙◌}
 use Rattle.par2_solve.proofs.holes.hole_system.Goals as goal
 
 pub loop-u-preserved : goal.loop-u-preserved

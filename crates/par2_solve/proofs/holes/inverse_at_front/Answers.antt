@@ -1,9 +1,4 @@
-use Rattle.par2_solve.proofs.Common.{◌≡◌, ◌+◌, ◌∙◌, ℕ, List, ap, ap₂, arith, sym, subst, get_or, length, length-take, lists_of, range_with_len, take, IsRepairable, run_determines}
-use Rattle.par2_solve.specs.BufferContents.{AreHoleInverse, Inverts, falling, holes, locator, span}
-use Rattle.par2_solve.specs.declared.holes.Filling.{Filling}
-use Rattle.par2_solve.specs.declared.inverse.Inverse.TheVariants.{Filled}
-use Rattle.par2_solve.proofs.Windows.{falling_long, holes_determine, is_run}
-use Rattle.par2_solve.proofs.RunInverses.{range_has, slices_of}
+use Rattle.par2_solve.proofs.Names.{AreHoleInverse, Filled, Filling, Inverts, IsRepairable, List, ap, ap₂, arith, falling, falling_long, get_or, holes, holes_determine, is_run, length, length-take, lists_of, locator, range_has, range_with_len, run_determines, slices_of, span, subst, sym, take, ℕ, ◌+◌, ◌∙◌, ◌≡◌}
 use Rattle.par2_solve.proofs.holes.inverse_at_front.Goals as goal
 
 pub returns-then-span-first : goal.returns-then-span-first

@@ -1,7 +1,14 @@
-use Rattle.par2_solve.proofs.Common.{Ok, YieldsList-from_map, YieldsList-from_slice, items_from_collect, map, rules, ℕ, List, ◌≡◌, ◌<◌, ◌≤◌, ◌+◌, ◌-◌, ◌*◌, ◌/◌, ◌∙◌, ◌^◌, sym, ap, ap₂, subst, arith, length, length-drop, drop, get_or, get_or-map, bit_xor, mul, value, quotient, all_from, Fits-lt-pow}
-use Rattle.std.proofs.lemmas.List.{get_or-replicate, with_items_is}
-use Rattle.par2_solve.proofs.RunInverses.{derivative_end, derivative_from}
+use Rattle.par2_solve.proofs.Names.{Fits-lt-pow, List, Ok, YieldsList-from_map, YieldsList-from_slice, all_from, ap, ap₂, arith, bit_xor, derivative_end, derivative_from, drop, get_or, get_or-map, get_or-replicate, items_from_collect, length, length-drop, length-map, map, mul, quotient, rules, subst, sym, value, with_items_is, ℕ, ◌*◌, ◌+◌, ◌-◌, ◌/◌, ◌<◌, ◌^◌, ◌∙◌, ◌≡◌, ◌≤◌}
+use Rattle.par2_solve.proofs.inverse.derivatives.Goals.{After-as_mut_slice}
 use Rattle.par2_solve.proofs.inverse.derivatives.Goals as goal
+
+factors_are : (c : After-as_mut_slice) → c.deref.result.now ≡ map (λ a. mul a a) c.args.points.now
+factors_are c =
+    c.deref.ensures.value
+    ∙ items_from_collect {E = ℕ} (Ok c.in_ok-squares.squares) c.in_ok-squares.ensures.ran (YieldsList-from_map _ (λ a. mul a a) (YieldsList-from_slice c.args.points.now (cc)) c.map.ensures.closure (λ x r q k. search rules))
+
+pub step_each-requires : goal.step_each-requires
+step_each-requires c = ap (λ (xs : List ℕ). length xs) (factors_are c) ∙ length-map c.args.points.now (λ a. mul a a) ∙ sym (ap (λ (xs : List ℕ). length xs) c.as_mut_slice.ensures.value ∙ c.loop-k.invariant.0)
 
 pub loop-k-init : goal.loop-k-init
 loop-k-init c =
@@ -14,8 +21,6 @@ pub loop-k-preserved : goal.loop-k-preserved
 loop-k-preserved c =
     let p = c.args.p.now in
     let points = c.args.points.now in
-    let squares : c.in_ok-squares.squares.items ≡ map (λ a. mul a a) points =
-    items_from_collect {E = ℕ} (Ok c.in_ok-squares.squares) c.in_ok-squares.ensures.ran (YieldsList-from_map _ (λ a. mul a a) (YieldsList-from_slice points (cc)) c.map.ensures.closure (λ x r q k. search rules)) in
     let k = c.loop-k.k - 1 in
     let values = c.step_each.new.values in
     let some : 0 < c.loop-k.k = c.loop-k-test.true in
@@ -28,7 +33,7 @@ loop-k-preserved c =
       count,
       λ j low.
           let z = get_or points j 0 in
-          let square : get_or c.deref.result.now j 0 ≡ mul z z = ap (λ (xs : List ℕ). get_or xs j 0) (c.deref.ensures.value ∙ squares) ∙ get_or-map (λ a. mul a a) points j 0 0 low in
+          let square : get_or c.deref.result.now j 0 ≡ mul z z = ap (λ (xs : List ℕ). get_or xs j 0) (factors_are (goal.at.loop-k-preserved c).After-as_mut_slice) ∙ get_or-map (λ a. mul a a) points j 0 0 low in
           c.step_each.ensures.each j (let same = ap (λ (xs : List ℕ). length xs) before in let all = c.loop-k.invariant.0 in omega (arith, low, same, all))
           ∙ ap (bit_xor (get_or p (2 * k + 1) 0))
           (ap₂ mul square (ap (λ (xs : List ℕ). get_or xs j 0) before ∙ c.loop-k.invariant.1 j low ∙ ap (λ n. value (quotient z (drop (2 * n) p)) z) next))

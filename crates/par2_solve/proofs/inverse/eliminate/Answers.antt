@@ -1,6 +1,5 @@
-use Rattle.par2_solve.proofs.Common.{◌≡◌, ◌+◌, ◌∙◌, ℕ, List, Vec, Global, ap, sym, subst, arith, length, Ok, Kept, Dependent, CutDown, IsIndependent, IsDependent, IsUnit}
+use Rattle.par2_solve.proofs.Names.{CutDown, Dependent, Global, IsDependent, IsIndependent, IsUnit, Kept, List, Ok, Standing, Vec, ap, arith, dependent_is_not_kept, eliminated, full_follows, length, stands_more, stands_still, subst, sym, ℕ, ◌+◌, ◌∙◌, ◌≡◌}
 use Rattle.par2_matrix.specs.Systems as systems
-use Rattle.par2_solve.proofs.Ranks.{full_follows, dependent_is_not_kept, Standing, stands_more, stands_still, eliminated}
 use Rattle.par2_solve.proofs.inverse.eliminate.Goals as goal
 
 pub loop-i-preserved-then-rank-lost : goal.loop-i-preserved-then-rank-lost

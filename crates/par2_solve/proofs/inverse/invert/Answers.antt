@@ -1,7 +1,4 @@
-use Rattle.par2_solve.proofs.Common.{◌∙◌, refl, sym, length, lists_of, length-lists_of}
-use Rattle.par2_solve.specs.BufferContents.{InvertsFirst}
-use Rattle.par2_solve.proofs.Inverting.{are_inverse}
-use Rattle.par2_solve.proofs.Windows.{kept_first, more_determine}
+use Rattle.par2_solve.proofs.Names.{InvertsFirst, are_inverse, kept_first, length, length-lists_of, lists_of, more_determine, refl, sym, ◌∙◌}
 use Rattle.par2_solve.proofs.inverse.invert.Goals.{In-Some}
 use Rattle.par2_solve.proofs.inverse.invert.Goals as goal
 

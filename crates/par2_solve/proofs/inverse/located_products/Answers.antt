@@ -1,9 +1,4 @@
-use Rattle.par2_solve.proofs.Common.{ℕ, List, Vec, Global, ◌≡◌, ◌∙◌, sym, subst, rules, length, lists_of, byte_lists, with_items_is, AddsToEach, AreProducts, AreSums}
-use Rattle.par2_transform.specs.Chirps.{words_at}
-use Rattle.par2_transform.specs.Locators.{quotient_coefficient, quotient_sum}
-use Rattle.par2_solve.proofs.Combinations.{length-byte_lists}
-use Rattle.par2_solve.proofs.RunInverses.{coefficient_products, quotient_rows}
-use Rattle.par2_solve.proofs.Inverting.{sums_of_blank}
+use Rattle.par2_solve.proofs.Names.{AddsToEach, AreProducts, AreSums, Global, List, Vec, byte_lists, coefficient_products, length, length-byte_lists, lists_of, quotient_coefficient, quotient_rows, quotient_sum, rules, subst, sums_of_blank, sym, with_items_is, words_at, ℕ, ◌∙◌, ◌≡◌}
 use Rattle.par2_solve.proofs.inverse.located_products.Goals as goal
 
 pub returns : goal.returns

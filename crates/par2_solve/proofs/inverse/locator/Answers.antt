@@ -1,5 +1,4 @@
-use Rattle.par2_solve.proofs.Common.{◌∙◌, ap, IfOk-weaker, with_roots}
-use Rattle.par2_solve.proofs.RunInverses.{first_powers}
+use Rattle.par2_solve.proofs.Names.{IfOk-weaker, ap, first_powers, with_roots, ◌∙◌}
 use Rattle.par2_solve.proofs.inverse.locator.Goals as goal
 
 pub returns : goal.returns

@@ -1,6 +1,4 @@
-use Rattle.par2_solve.proofs.Common.{AreByteRows, Global, List, Vec, [], ap, arith, length, length_push, list_at, lists_of, map-append, subst, sym, ℕ, ◌%◌, ◌+◌, ◌∙◌, ◌∷◌, ◌≡◌}
-use Rattle.par2_matrix.specs.Echelon.{HoldsRow}
-use Rattle.par2_solve.proofs.Combinations.{each_more}
+use Rattle.par2_solve.proofs.Names.{AreByteRows, Global, HoldsRow, List, Vec, [], ap, arith, each_more, length, length_push, list_at, lists_of, map-append, subst, sym, ℕ, ◌%◌, ◌+◌, ◌∙◌, ◌∷◌, ◌≡◌}
 use Rattle.par2_solve.proofs.inverse.rows_of.Goals as goal
 
 pub row_of-requires : goal.row_of-requires

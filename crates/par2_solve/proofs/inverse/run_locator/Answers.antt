@@ -1,7 +1,4 @@
-use Rattle.par2_solve.proofs.Common.{rules, ◌≡◌, ◌≤◌, ◌∙◌, sym, ap, arith, length, length-drop, length-map, drop, take_all, constant}
-use Rattle.par2_solve.specs.BufferContents.{locator}
-use Rattle.par2_solve.proofs.RunInverses.{located_inverse, located_wide, slices_of}
-use Rattle.par2_solve.proofs.Windows.{locator_long}
+use Rattle.par2_solve.proofs.Names.{ap, arith, constant, drop, length, length-drop, length-map, located_inverse, located_wide, locator, locator_long, rules, slices_of, sym, take_all, ◌∙◌, ◌≡◌, ◌≤◌}
 use Rattle.par2_solve.proofs.inverse.run_locator.Goals.{After-deref, In_ok-sequence}
 use Rattle.par2_solve.proofs.inverse.run_locator.Goals as goal
 

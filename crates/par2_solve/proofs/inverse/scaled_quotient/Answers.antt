@@ -1,5 +1,4 @@
-use Rattle.par2_solve.proofs.Common.{rules, ◌≡◌, ◌<◌, ◌≤◌, ◌+◌, ◌-◌, ◌∙◌, sym, ap, arith, length, drop, get_or, bit_xor, length-set, mul, value}
-use Rattle.par2_solve.proofs.RunInverses.{value_from, value_at_end, quotient_step, quotient_whole}
+use Rattle.par2_solve.proofs.Names.{ap, arith, bit_xor, drop, get_or, length, length-set, mul, quotient_step, quotient_whole, rules, sym, value, value_at_end, value_from, ◌+◌, ◌-◌, ◌<◌, ◌∙◌, ◌≡◌, ◌≤◌}
 use Rattle.par2_solve.proofs.inverse.scaled_quotient.Goals as goal
 
 pub loop-t-init : goal.loop-t-init

@@ -1,5 +1,4 @@
-use Rattle.par2_solve.proofs.Common.{◌≤◌, ◌∙◌, ◌++◌, ◌+◌, ◌∷◌, [], sym, ap, arith, length, drop, get_or, bit_xor, plus, times}
-use Rattle.par2_solve.proofs.RunInverses.{root_step, root_end}
+use Rattle.par2_solve.proofs.Names.{[], ap, arith, bit_xor, drop, get_or, length, plus, root_end, root_step, sym, times, ◌++◌, ◌+◌, ◌∙◌, ◌∷◌, ◌≤◌}
 use Rattle.par2_solve.proofs.inverse.times_root.Goals as goal
 
 pub loop-t-preserved : goal.loop-t-preserved

@@ -1,6 +1,4 @@
-use Rattle.par2_solve.proofs.Common.{◌<◌, ◌^◌, ◌≡◌, ◌≢◌, ◌∙◌, ap, ap₂, sym, arith, rules, length, length-map, get_or, get_or_default, mul, pow, value, quotient, constant}
-use Rattle.par2_solve.specs.BufferContents.{locator}
-use Rattle.par2_solve.proofs.RunInverses.{at_itself, factor_is, first_powers, more_factors, slices_of}
+use Rattle.par2_solve.proofs.Names.{AreFactors, List, ap, ap₂, arith, at_itself, constant, factor_is, first_powers, get_or, get_or_default, length, length-map, locator, more_factors, mul, pow, quotient, rules, slices_of, subst, sym, value, ℕ, ◌<◌, ◌^◌, ◌∙◌, ◌≡◌, ◌≢◌}
 use Rattle.par2_solve.proofs.inverse.with_factors.Goals.{After-mul-value}
 use Rattle.par2_solve.proofs.inverse.with_factors.Goals as goal
 
@@ -36,3 +34,12 @@ loop-j-preserved c =
 
 pub returns-clause-points : goal.returns-clause-points
 returns-clause-points c = c.in_ok-points.ensures ∙ first_powers c.args.lost.now.numbers.now
+
+pub loop-j-init : goal.loop-j-init
+loop-j-init c = record { count = ap (λ (xs : List ℕ). length xs) c.in_ok-factors.ensures.items; small = λ j low. absurd (omega (arith, low)); each = λ j low. absurd (omega (arith, low)) }
+
+pub returns-clause-factors : goal.returns-clause-factors
+returns-clause-factors c =
+    let lost = c.args.lost.now.numbers.now in
+    let end : c.loop-j.j ≡ length lost = omega (arith, c.loop-j-test.false, c.loop-j.auto.j-end, c.len-j-end.ensures, ap length (c.in_ok-points.ensures ∙ first_powers lost), length-map lost constant) in
+    subst (AreFactors c.args.first lost c.loop-j.factors.items) end c.loop-j.invariant

@@ -1,5 +1,4 @@
-use Rattle.par2_solve.proofs.Common.{rules, ◌≡◌, ◌<◌, ◌+◌, ◌-◌, ◌∙◌, sym, ap, arith, drop, get_or, times_root, with_roots}
-use Rattle.par2_solve.proofs.RunInverses.{with_roots_from, with_roots_at_end}
+use Rattle.par2_solve.proofs.Names.{ap, arith, drop, get_or, rules, sym, times_root, with_roots, with_roots_at_end, with_roots_from, ◌+◌, ◌-◌, ◌<◌, ◌∙◌, ◌≡◌}
 use Rattle.par2_solve.proofs.inverse.with_roots.Goals as goal
 
 pub loop-i-init : goal.loop-i-init

@@ -1,7 +1,4 @@
-use Rattle.par2_solve.proofs.Common.{◌-◌, ◌*◌, ◌∙◌, refl, sym, ap, arith, drop, take, word, length, list_at, lists_of, length-lists_of, byte_lists}
-use Rattle.par2_spec.proofs.ListsLaws.{word_past}
-use Rattle.par2_gf16.specs.Words.{word_of}
-use Rattle.par2_solve.proofs.Combinations.{no_source, next_source, nothing_added, vector_word}
+use Rattle.par2_solve.proofs.Names.{ap, arith, byte_lists, drop, length, length-lists_of, list_at, lists_of, next_source, no_source, nothing_added, refl, sym, take, vector_word, word, word_of, word_past, ◌*◌, ◌-◌, ◌∙◌}
 use Rattle.par2_solve.proofs.products.add_columns.Goals.{then-start-bytes+in_ok-source, else-start-bytes}
 use Rattle.par2_solve.proofs.products.add_columns.Goals as goal
 

@@ -1,6 +1,4 @@
-use Rattle.par2_solve.proofs.Common.{ℕ, ◌-◌, ◌*◌, refl, mul}
-use Rattle.par2_gf16.specs.Words.{word_of}
-use Rattle.par2_solve.proofs.Combinations.{part_added}
+use Rattle.par2_solve.proofs.Names.{mul, part_added, refl, word_of, ℕ, ◌*◌, ◌-◌}
 use Rattle.par2_solve.proofs.products.add_product.Goals as goal
 
 pub returns : goal.returns

@@ -1,6 +1,4 @@
-use Rattle.par2_solve.proofs.Common.{arith, ap, sym, get_or_default, ◌≡◌, ◌-◌, ◌<◌, ◌∙◌, rules, length, get_or, with_items_is, with_items, list_at, lists_of, read_at, written_here, written_changed}
-use Rattle.par2_gf16.specs.Words.{word_of}
-use Rattle.par2_solve.proofs.Combinations.{next_target}
+use Rattle.par2_solve.proofs.Names.{ap, arith, get_or, get_or_default, length, list_at, lists_of, next_target, read_at, rules, sym, with_items, with_items_is, word_of, written_changed, written_here, ◌-◌, ◌<◌, ◌∙◌, ◌≡◌}
 use Rattle.par2_solve.proofs.products.add_source.Goals as goal
 
 pub loop-r-preserved : goal.loop-r-preserved

@@ -1,4 +1,4 @@
-use Rattle.par2_solve.proofs.Common.{rules, ℕ, List, Vec, Global, Bor, YieldsList-from_map_by, YieldsList-from_slice, map_from_collect}
+use Rattle.par2_solve.proofs.Names.{Bor, Global, List, Vec, YieldsList-from_map_by, YieldsList-from_slice, map_from_collect, rules, ℕ}
 use Rattle.par2_solve.proofs.products.borrowed.Goals as goal
 
 pub returns : goal.returns

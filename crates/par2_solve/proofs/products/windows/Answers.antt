@@ -1,4 +1,4 @@
-use Rattle.par2_solve.proofs.Common.{rules, List, ℕ, chunk, Bor, map-map, YieldsList-from_map_by, YieldsList-from_slice, map_from_collect}
+use Rattle.par2_solve.proofs.Names.{Bor, List, YieldsList-from_map_by, YieldsList-from_slice, chunk, map-map, map_from_collect, rules, ℕ}
 use Rattle.par2_solve.proofs.products.windows.Goals as goal
 
 pub returns : goal.returns

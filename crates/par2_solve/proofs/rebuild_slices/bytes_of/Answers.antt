@@ -1,5 +1,4 @@
-use Rattle.par2_solve.proofs.Common.{by_either, rules, ℕ, List, [], ◌∷◌, Bor, ◌≡◌, ◌∙◌, ◌||◌, eqb, refl, ap₂, inl, inr, sym, cases_eq, eq-eqb, ne_eqb, list_any, filter, map-map, filter-map, YieldsList-from_map_by, YieldsList-from_slice, map_from_collect}
-use Rattle.std.proofs.lemmas.Iterator.Consumers.{YieldsList-at, YieldsList-from_filter}
+use Rattle.par2_solve.proofs.Names.{Bor, List, YieldsList-at, YieldsList-from_filter, YieldsList-from_map_by, YieldsList-from_slice, [], ap₂, by_either, cases_eq, eq-eqb, eqb, filter, filter-map, inl, inr, list_any, map-map, map_from_collect, ne_eqb, refl, rules, sym, ℕ, ◌||◌, ◌∙◌, ◌∷◌, ◌≡◌}
 use Rattle.par2_solve.proofs.rebuild_slices.bytes_of.Goals as goal
 
 flipped : (a b : ℕ) → eqb a b ≡ eqb b a

@@ -1,5 +1,4 @@
-use Rattle.par2_solve.proofs.Common.{by_either, ◌≡◌, ◌∙◌, ◌++◌, ◌<◌, ap₂, sym, subst, inl, inr, cases_eq, rules, arith, length, list_at, lists_of, length-lists_of, read_at, set, written_here, written_changed}
-use Rattle.par2_spec.specs.Prelude.{OneChanged}
+use Rattle.par2_solve.proofs.Names.{OneChanged, ap₂, arith, by_either, cases_eq, inl, inr, length, length-lists_of, list_at, lists_of, read_at, rules, set, subst, sym, written_changed, written_here, ◌++◌, ◌<◌, ◌∙◌, ◌≡◌}
 use Rattle.par2_solve.proofs.rebuild_slices.extend.Goals as goal
 
 pub loop-r-preserved : goal.loop-r-preserved

@@ -1,4 +1,4 @@
-use Rattle.par2_solve.proofs.Common.{by_either, ◌≡◌, ◌<◌, ℕ, zero, suc, List, [], ◌∷◌, Bor, length, get_or, map, refl, sym, subst, inl, inr, cases_lt, arith, list_at, recovered_of}
+use Rattle.par2_solve.proofs.Names.{Bor, List, [], arith, by_either, cases_lt, get_or, inl, inr, length, list_at, map, recovered_of, refl, subst, suc, sym, zero, ℕ, ◌<◌, ◌∷◌, ◌≡◌}
 use Rattle.par2_solve.proofs.rebuild_slices.fit_recovery.Goals as goal
 
 -- the bytes at an index are those of the recovery slice there

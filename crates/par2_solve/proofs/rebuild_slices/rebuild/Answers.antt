@@ -1,6 +1,4 @@
-use Rattle.par2_solve.proofs.Common.{Ok, YieldsList-from_map, YieldsList-from_map_by, YieldsList-from_slice, items_from_collect, map_from_collect, map-map, ◌≡◌, ◌∙◌, ℕ, List, Bor, map, refl, sym, ap, subst, rules, IfErr, IsStrictlyIncreasing, AreByteLists, byte_lists, bytes_or_none, recovered_of, IsTrueFault, lost_from, exponents_of, lost, known_among}
-use Rattle.par2_solve.proofs.Windows.{lost_rise}
-use Rattle.par2_solve.proofs.Rebuilding.{lost_are, lost-lt, length-lost_from, another, two}
+use Rattle.par2_solve.proofs.Names.{AreByteLists, Bor, IfErr, IsStrictlyIncreasing, IsTrueFault, List, Ok, YieldsList-from_map, YieldsList-from_map_by, YieldsList-from_slice, another, ap, byte_lists, bytes_or_none, exponents_of, items_from_collect, known_among, length-lost_from, lost, lost-lt, lost_are, lost_from, lost_rise, map, map-map, map_from_collect, recovered_of, refl, rules, subst, sym, two, ℕ, ◌∙◌, ◌≡◌}
 use Rattle.par2_solve.proofs.rebuild_slices.rebuild.Goals.{After-deref-2, After-deref-6, After-deref-7}
 use Rattle.par2_solve.proofs.rebuild_slices.rebuild.Goals as goal
 

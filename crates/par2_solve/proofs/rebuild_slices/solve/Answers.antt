@@ -1,10 +1,5 @@
-use Rattle.par2_solve.proofs.Common.{ℕ, ◌≡◌, ◌<◌, ◌∙◌, [], List, sym, ap, ap₂, refl, subst, arith, length, length-map, map, get_or-map, list_at, lists_of, all_get, all-filter, length-lists_of, AreByteLists, IsStrictlyIncreasing, known_among, recovered_of, exponents_of, with_exponents, kept_slices, lost, byte_lists}
-use Rattle.std.proofs.lemmas.List.Kept.{IsStrictlyIncreasing-filter}
-use Rattle.par2_solve.specs.BufferContents.{Inverts}
+use Rattle.par2_solve.proofs.Names.{AreByteLists, Inverts, IsStrictlyIncreasing, IsStrictlyIncreasing-filter, List, [], all-filter, all_get, answer, ap, ap₂, arith, byte_lists, exponents_of, get_or-map, is_kept, kept_exponents, kept_slices, known_among, length, length-byte_lists, length-lists_of, length-map, list_at, lists_of, lost, lost_are, map, recovered_of, refl, square, subst, sym, with_exponents, ℕ, ◌<◌, ◌∙◌, ◌≡◌}
 use Rattle.par2_solve.specs.declared.rebuild_slices.Survivors as code
-use Rattle.par2_solve.proofs.Combinations.{length-byte_lists}
-use Rattle.par2_solve.proofs.Rebuilding.{answer, square, lost_are}
-use Rattle.par2_solve.proofs.Ranks.{is_kept, kept_exponents}
 use Rattle.par2_solve.proofs.rebuild_slices.solve.Goals.{After-deref, After-deref-3}
 use Rattle.par2_solve.proofs.rebuild_slices.solve.Goals as goal
 

@@ -1,7 +1,4 @@
-use Rattle.par2_solve.proofs.Common.{◌≡◌, ◌<◌, ◌∙◌, refl, sym, ap, ℕ, List, Vec, Global, arith, rules, length, map, with_items_is, list_at, lists_of, length-lists_of, chunk, byte_lists}
-use Rattle.par2_solve.proofs.Combinations.{length-byte_lists}
-use Rattle.par2_solve.proofs.Rebuilding.{square}
-use Rattle.par2_solve.proofs.Inverting.{many_windows, more_solved, none_solved, window_size, words_solved}
+use Rattle.par2_solve.proofs.Names.{AreSolvedBy, Global, List, Vec, ap, arith, byte_lists, chunk, length, length-byte_lists, length-lists_of, list_at, lists_of, many_windows, map, more_solved, none_solved, refl, rules, square, subst, sym, syndrome, window_size, with_items_is, words_solved, ℕ, ◌<◌, ◌∙◌, ◌≡◌}
 use Rattle.par2_solve.proofs.rebuild_slices.solved.Goals.{After-deref-in-loop-from, After-deref-in-loop-from-3}
 use Rattle.par2_solve.proofs.rebuild_slices.solved.Goals as goal
 
@@ -18,6 +15,15 @@ sizes c j h =
 
 sources_are : (c : After-deref-in-loop-from-3) → byte_lists c.deref-in-loop-from-3.result.now ≡ lists_of c.in_ok-syndromes.syndromes.items
 sources_are c = ap byte_lists c.deref-in-loop-from-3.ensures.value ∙ c.in_ok-sources.ensures ∙ ap lists_of c.deref-in-loop-from-2.ensures.value
+
+pub invariant_of-block : goal.invariant_of-block
+invariant_of-block c =
+    let few = c.args.transform.now.few in
+    let count = many_windows c.loop-from.from c.min-bytes.result c.args.transform.now.slices.now c.deref.result.now (ap byte_lists c.deref.ensures.value ∙ c.in_ok-known.ensures) in
+    record { few = omega (arith, few, count) }
+
+pub invariant_of-part : goal.invariant_of-part
+invariant_of-part c = record { count = c.args.kept.now.count ∙ sym (many (goal.at.invariant_of-part c).After-deref-in-loop-from) }
 
 pub with_recovery_slices-requires : goal.with_recovery_slices-requires
 with_recovery_slices-requires c = λ j h. let size = sizes (goal.at.with_recovery_slices-requires c).After-deref-in-loop-from j h in omega (arith, size, c.args.size.even, c.loop-from.invariant.even, c.min-bytes.ensures, c.max-at_once.ensures, c.least.ensures, c.columns_at_once-columns.ensures.even)
@@ -68,3 +74,13 @@ extend-requires c =
     let inverts = c.requires.inverse.1 in
     ap (λ (xs : List (Vec ℕ Global)). length xs) c.deref-in-loop-from-4.ensures.value ∙ sym (length-lists_of c.in_ok-lost.lost.items) ∙ (c.in_ok-lost.ensures c.args.kept.now.exponents.now lost inverts).count
     ∙ sym (c.loop-from.invariant.solved lost inverts).count ∙ length-lists_of c.loop-from.buffers.items ∙ ap (λ (xs : List (Vec ℕ Global)). length xs) (sym c.as_mut_slice.ensures.value)
+
+pub returns : goal.returns
+returns c =
+    let end : c.loop-from.from ≡ c.args.size.bytes = omega (arith, c.loop-from-test.false, c.loop-from.invariant.within) in
+    let exponents = c.args.kept.now.exponents.now in
+    record {
+      solved = subst (λ bytes. AreSolvedBy c.args.inverse.now bytes exponents (syndrome exponents (byte_lists c.args.transform.now.slices.now) (byte_lists c.args.kept.now.slices.now)) (lists_of c.loop-from.buffers.items)) end c.loop-from.invariant.solved;
+      slices = c.buffers_fit.ensures;
+      recovery = c.buffers_fit-2.ensures;
+    }

@@ -1,5 +1,4 @@
-use Rattle.par2_solve.proofs.Common.{rules, length}
-use Rattle.par2_solve.proofs.RunInverses.{close-iff, not_empty, rises_to_the_end}
+use Rattle.par2_solve.proofs.Names.{close-iff, length, not_empty, rises_to_the_end, rules}
 use Rattle.par2_solve.proofs.exponents.Exponents.are_close.Goals as goal
 
 pub overflow_sub-span-2 : goal.overflow_sub-span-2

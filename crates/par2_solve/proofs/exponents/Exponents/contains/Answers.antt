@@ -1,7 +1,4 @@
-use Rattle.par2_solve.proofs.Common.{◌∙◌, arith}
-use Rattle.std.proofs.lemmas.List.Sorted.{searched}
-use Rattle.par2_solve.proofs.RunInverses.{rises_between}
-use Rattle.par2_solve.proofs.Windows.{found_among}
+use Rattle.par2_solve.proofs.Names.{arith, found_among, rises_between, searched, ◌∙◌}
 use Rattle.par2_solve.proofs.exponents.Exponents.contains.Goals as goal
 
 pub returns : goal.returns

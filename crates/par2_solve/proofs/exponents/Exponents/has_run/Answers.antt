@@ -1,5 +1,4 @@
-use Rattle.par2_solve.proofs.Common.{rules, refl, sym, ◌∙◌, ◌-◌, ◌+◌, ◌≤◌, length, get_or, subst, drop, arith, take, false≢true, AreClose}
-use Rattle.par2_solve.proofs.RunInverses.{close_run, no_run, one_less, part_is}
+use Rattle.par2_solve.proofs.Names.{AreClose, arith, close_run, drop, false≢true, get_or, length, no_run, one_less, part_is, refl, rules, subst, sym, take, ◌+◌, ◌-◌, ◌∙◌, ◌≤◌}
 use Rattle.par2_solve.proofs.exponents.Exponents.has_run.Goals as goal
 
 pub returns-then-are_close : goal.returns-then-are_close

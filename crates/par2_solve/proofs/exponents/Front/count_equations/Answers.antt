@@ -1,5 +1,4 @@
-use Rattle.par2_solve.proofs.Common.{arith}
-use Rattle.par2_solve.proofs.Windows.{window_holds}
+use Rattle.par2_solve.proofs.Names.{arith, window_holds}
 use Rattle.par2_solve.proofs.exponents.Front.count_equations.Goals as goal
 
 pub overflow_sub-result : goal.overflow_sub-result

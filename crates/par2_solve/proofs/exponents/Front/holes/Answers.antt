@@ -1,5 +1,4 @@
-use Rattle.par2_solve.proofs.Common.{arith, ap, not, append-nil}
-use Rattle.par2_solve.proofs.Windows.{one_place_more}
+use Rattle.par2_solve.proofs.Names.{ap, append-nil, arith, not, one_place_more}
 use Rattle.par2_solve.proofs.exponents.Front.holes.Goals as goal
 
 pub loop-x-preserved : goal.loop-x-preserved

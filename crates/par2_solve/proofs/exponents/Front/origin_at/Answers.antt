@@ -1,9 +1,4 @@
-use Rattle.par2_solve.proofs.Common.{◌+◌, ◌≡◌, ap, not, true, get_or, arith, sym, subst, Contains, IsStrictlyIncreasing}
-use Rattle.std.specs.Prelude.{Err}
-use Rattle.std.proofs.lemmas.List.Sorted.{searched}
-use Rattle.par2_solve.specs.BufferContents.{is_hole}
-use Rattle.par2_solve.proofs.RunInverses.{rises_between}
-use Rattle.par2_solve.proofs.Windows.{found_among, found_place, hole_contained, holes_rise}
+use Rattle.par2_solve.proofs.Names.{Contains, Err, IsStrictlyIncreasing, ap, arith, found_among, found_place, get_or, hole_contained, holes_rise, is_hole, not, rises_between, searched, subst, sym, true, ◌+◌, ◌≡◌}
 use Rattle.par2_solve.proofs.exponents.Front.origin_at.Goals as goal
 
 pub unwrap-requires : goal.unwrap-requires

@@ -1,8 +1,4 @@
-use Rattle.par2_solve.proofs.Common.{Global, List, Vec, ap, arith, length, length_push, subst, sym, ℕ, [], ◌++◌, ◌+◌, ◌∙◌, ◌∷◌, ◌≡◌}
-use Rattle.par2_solve.specs.BufferContents.{AreOrigins, IsOriginAt, span}
-use Rattle.par2_solve.specs.declared.holes.Origin.{Origin}
-use Rattle.par2_solve.specs.declared.holes.Origin.TheVariants.{Exponent}
-use Rattle.par2_solve.proofs.Combinations.{each_more}
+use Rattle.par2_solve.proofs.Names.{AreOrigins, Exponent, Global, IsOriginAt, List, Origin, Vec, [], ap, arith, each_more, length, length_push, span, subst, sym, ℕ, ◌++◌, ◌+◌, ◌∙◌, ◌∷◌, ◌≡◌}
 use Rattle.par2_solve.proofs.exponents.Front.origins.Goals as goal
 
 next_origin : (exponents : List ℕ) (n : ℕ) (before new : List Origin) (o : Origin) → AreOrigins exponents n before → new ≡ before ++ o ∷ [] → IsOriginAt exponents n o → AreOrigins exponents (n + 1) new

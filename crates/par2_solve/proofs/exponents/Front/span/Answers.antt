@@ -1,4 +1,4 @@
-use Rattle.par2_solve.proofs.RunInverses.{rises_to_the_end}
+use Rattle.par2_solve.proofs.Names.{rises_to_the_end}
 use Rattle.par2_solve.proofs.exponents.Front.span.Goals as goal
 
 pub overflow_sub-result-2 : goal.overflow_sub-result-2

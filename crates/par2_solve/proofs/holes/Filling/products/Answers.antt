@@ -1,10 +1,4 @@
-use Rattle.par2_solve.proofs.Common.{ℕ, ◌+◌, Bor, List, Vec, Global, ◌≡◌, ◌∙◌, ap, sym, subst, arith, length, map, length-map, length-take-le, take, lists_of, byte_lists, AreByteLists, AreProducts}
-use Rattle.par2_solve.specs.BufferContents.{from_origin, locator, span}
-use Rattle.par2_solve.proofs.Combinations.{length-byte_lists}
-use Rattle.par2_solve.proofs.Windows.{falling_long, filled_solve}
-use Rattle.par2_solve.proofs.Rebuilding.{same_count}
-use Rattle.par2_solve.proofs.Inverting.{rows_solve}
-use Rattle.par2_solve.specs.declared.inverse.Inverse.TheVariants.{Filled}
+use Rattle.par2_solve.proofs.Names.{AreByteLists, AreProducts, Bor, Filled, Global, List, Vec, ap, arith, byte_lists, falling_long, filled_solve, from_origin, length, length-byte_lists, length-map, length-take-le, lists_of, locator, map, rows_solve, same_count, span, subst, sym, take, ℕ, ◌+◌, ◌∙◌, ◌≡◌}
 use Rattle.par2_solve.proofs.holes.Filling.products.Goals.{After-deref-5}
 use Rattle.par2_solve.proofs.holes.Filling.products.Goals as goal
 

@@ -1,10 +1,4 @@
-use Rattle.par2_solve.proofs.Common.{AddsToEach, Bor, List, Vec, Global, ℕ, [], ◌∙◌, ap, sym, subst, rules, length, length-map, length-reverse, lists_of, byte_lists, with_items_is, AreSums, ◌≡◌}
-use Rattle.std.specs.Prelude.{reverse}
-use Rattle.par2_transform.specs.Chirps.{words_at}
-use Rattle.par2_transform.specs.Locators.{numerator}
-use Rattle.par2_solve.specs.BufferContents.{from_origin, right_side}
-use Rattle.par2_solve.proofs.Combinations.{length-byte_lists}
-use Rattle.par2_solve.proofs.Inverting.{sums_of_blank}
+use Rattle.par2_solve.proofs.Names.{AddsToEach, AreSums, Bor, Global, List, Vec, [], ap, byte_lists, from_origin, length, length-byte_lists, length-map, length-reverse, lists_of, numerator, reverse, right_side, rules, subst, sums_of_blank, sym, with_items_is, words_at, ℕ, ◌∙◌, ◌≡◌}
 use Rattle.par2_solve.proofs.holes.Filling.right_sides.Goals as goal
 
 pub add_sums-requires-clause-sources : goal.add_sums-requires-clause-sources

@@ -1,6 +1,4 @@
-use Rattle.par2_solve.proofs.Common.{rules, List, ℕ, Bor, YieldsList-from_map_by, YieldsList-from_slice, map_from_collect, lists_of, byte_lists, length}
-use Rattle.std.proofs.lemmas.Iterator.{YieldsList-from_take}
-use Rattle.par2_solve.specs.BufferContents.{from_origin}
+use Rattle.par2_solve.proofs.Names.{Bor, List, YieldsList-from_map_by, YieldsList-from_slice, YieldsList-from_take, byte_lists, from_origin, length, lists_of, map_from_collect, rules, ℕ}
 use Rattle.par2_solve.proofs.holes.Filling.run.Goals as goal
 
 pub returns : goal.returns

@@ -1,6 +1,4 @@
-use Rattle.par2_solve.proofs.Common.{rules, List, ℕ, Bor, [], YieldsList-from_map_by, map_from_collect, byte_lists}
-use Rattle.std.proofs.lemmas.Iterator.Adapters.{YieldsList-from_rev_slice}
-use Rattle.par2_solve.specs.BufferContents.{from_origin}
+use Rattle.par2_solve.proofs.Names.{Bor, List, YieldsList-from_map_by, YieldsList-from_rev_slice, [], byte_lists, from_origin, map_from_collect, rules, ℕ}
 use Rattle.par2_solve.proofs.holes.Filling.window.Goals as goal
 
 pub returns : goal.returns

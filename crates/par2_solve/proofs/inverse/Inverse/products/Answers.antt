@@ -1,9 +1,4 @@
-use Rattle.par2_solve.proofs.Common.{◌∙◌, ℕ, List, Vec, Global, sym, subst, lists_of, length, byte_lists, AreProducts, IfOk-weaker, IsInverseMatrix}
-use Rattle.par2_solve.specs.BufferContents.{AreSolvedBy, Inverts, located_rows}
-use Rattle.par2_transform.specs.Chirps.{words_at}
-use Rattle.par2_solve.proofs.Combinations.{length-byte_lists}
-use Rattle.par2_solve.proofs.Rebuilding.{same_count}
-use Rattle.par2_solve.proofs.Inverting.{rows_solve}
+use Rattle.par2_solve.proofs.Names.{AreProducts, AreSolvedBy, Global, IfOk-weaker, Inverts, IsInverseMatrix, List, Vec, byte_lists, length, length-byte_lists, lists_of, located_rows, rows_solve, same_count, subst, sym, words_at, ℕ, ◌∙◌}
 use Rattle.par2_solve.proofs.inverse.Inverse.products.Goals as goal
 
 pub returns-in-Rows : goal.returns-in-Rows
