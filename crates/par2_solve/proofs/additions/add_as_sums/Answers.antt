@@ -1,4 +1,4 @@
-use Rattle.par2_solve.proofs.Names.{all_columns_added, ap, arith, byte_lists, coefficients, length, length-byte_lists, length-map, lists_of, many_windows, next_columns, products, products_are, range_with_len, rows_long, sums_are, sym, ◌∙◌}
+use Rattle.par2_solve.proofs.Names.{all_columns_added, ap, arith, byte_lists, coefficients, length, length-byte_lists, length-map, lists_of, many_windows, next_columns, products, products_are, range_with_len, rows_long, still_within, sums_are, sym, ◌∙◌}
 use Rattle.par2_solve.proofs.additions.add_as_sums.Goals as goal
 
 pub products_of-requires : goal.products_of-requires
@@ -23,3 +23,6 @@ returns c =
     let new = lists_of c.loop-from.buffers in
     products_are n c.args.targets.now.outputs.words c.args.targets.now.exponents.now rows slices was new c.args.targets.now.outputs.places.now c.in_ok-rows.ensures (sym (length-byte_lists c.args.transform.now.slices.now)) c.args.targets.now.count
     (all_columns_added c.args.targets.now.outputs.places.now c.args.targets.now.outputs.words c.loop-from.from (products n rows slices) was new (omega arith) c.loop-from.invariant.added)
+
+pub add_sums-requires-clause-room : goal.add_sums-requires-clause-room
+add_sums-requires-clause-room c = still_within c.args.targets.now.outputs.places.now c.args.targets.now.outputs.words c.args.targets.now.outputs.words _ (lists_of c.args.buffers.now) (lists_of c.loop-from.buffers) c.loop-from.invariant.added c.requires.room

@@ -1,4 +1,4 @@
-use Rattle.par2_solve.proofs.Names.{CutDown, Dependent, Global, IsDependent, IsIndependent, IsUnit, Kept, List, Ok, Standing, Vec, ap, arith, dependent_is_not_kept, eliminated, full_follows, length, stands_more, stands_still, subst, sym, ℕ, ◌+◌, ◌∙◌, ◌≡◌}
+use Rattle.par2_solve.proofs.Names.{CutDown, Dependent, Global, IsDependent, IsIndependent, IsUnit, Kept, List, Ok, Standing, Vec, ap, arith, dependent_is_not_kept, eliminated, full_follows, length, length-map, stands_more, stands_still, subst, sym, ℕ, ◌+◌, ◌∙◌, ◌≡◌}
 use Rattle.par2_matrix.specs.Systems as systems
 use Rattle.par2_solve.proofs.inverse.eliminate.Goals as goal
 
@@ -35,3 +35,6 @@ returns c =
     let all = c.args.exponents.now.numbers.now in
     let at_end : c.loop-i.i ≡ length all = omega (arith, c.loop-i-test.false, c.loop-i.auto.i-end) in
     eliminated c.args.lost.now c.args.units all c.loop-i.kept.items c.loop-i.i c.loop-i.system at_end c.loop-i.invariant
+
+pub offer-requires : goal.offer-requires
+offer-requires c = record { row = ap (λ (xs : List ℕ). length xs) (c.deref.ensures.value ∙ c.in_ok-row.ensures) ∙ length-map c.args.lost.now _ ∙ sym c.loop-i.invariant.columns; right = c.in_ok-right.ensures.size ∙ sym c.loop-i.invariant.bytes }
