@@ -1,6 +1,9 @@
-use Rattle.par2_slices.proofs.Common.{◌≡◌, ◌∙◌, ℕ, ◌<◌, Bool, List, [], length, get_or, sym, ap, Bor, at_drop_all, get_or-map, is_intact, first_intact, listed_at, buffers_of}
+use Rattle.par2_slices.proofs.Common.{◌≡◌, ◌∙◌, ℕ, arith, length-map, subst, ◌<◌, Bool, List, [], length, get_or, sym, ap, Bor, at_drop_all, get_or-map, is_intact, first_intact, listed_at, buffers_of}
 use Rattle.par2_spec.specs.Sets as sets
 use Rattle.par2_slices.proofs.Matches.{first_here, first_later}
+use Rattle.std.proofs.Common.{None}
+use Rattle.std.specs.Option.{ForSome}
+use Rattle.par2_slices.specs.Matching.{IsFirst}
 use Rattle.par2_slices.proofs.matching.first_intact.Goals as goal
 
 -- what is known of a buffer is known of it by its number
@@ -27,3 +30,17 @@ pub returns : goal.returns
 returns c t h =
     sym (at_drop_all (first_intact c.args.files.s (buffers_of c.args.files.buffers.now) t) c.args.free.now c.loop-i.i-index c.loop-i-test.false)
     ∙ c.loop-i.invariant t h
+
+pub bounds-files-i : goal.bounds-files-i
+bounds-files-i c = c.requires c.loop-i.i-index 0 c.loop-i-test.true
+
+pub bounds-files-i-in-loop-i : goal.bounds-files-i-in-loop-i
+bounds-files-i-in-loop-i c = omega (arith, c.args.files.crcs.count, length-map c.args.files.buffers.now (λ (bytes : Bor (List ℕ)). bytes.now), c.requires c.loop-i.i-index 0 c.loop-i-test.true)
+
+pub is_intact_by-requires-clause-first : goal.is_intact_by-requires-clause-first
+is_intact_by-requires-clause-first c =
+    let buffers = c.args.files.buffers.now in
+    let bytes = λ (buffer : Bor (List ℕ)). buffer.now in
+    let i : ℕ = get_or c.args.free.now c.loop-i.i-index 0 in
+    let within : i < length buffers = c.requires c.loop-i.i-index 0 c.loop-i-test.true in
+    subst (λ bytes. ForSome (get_or c.args.files.firsts.now i None) (IsFirst c.args.files.s bytes)) (get_or-map bytes buffers i _ [] within) (c.args.files.crcs.each i (omega (arith, within, length-map buffers bytes)))
