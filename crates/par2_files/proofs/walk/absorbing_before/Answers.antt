@@ -1,4 +1,4 @@
-use Rattle.par2_files.proofs.Common.{◌≡◌, ◌+◌, ◌∙◌, Bool, true, false, [], ◌∷◌, IsTrue, ap, cond, map, subst, sym, append-nil, are_applicable, change_of, bytes_before, touches, group_buffers, AreTo, HaveAbsorbed, folder_in}
+use Rattle.par2_files.proofs.Common.{arith, ◌≡◌, ◌+◌, ◌∙◌, Bool, true, false, [], ◌∷◌, IsTrue, ap, cond, map, subst, sym, append-nil, are_applicable, change_of, bytes_before, touches, group_buffers, AreTo, HaveAbsorbed, folder_in}
 use Rattle.par2_files.proofs.Walks.{absorbed_here, arrived, goes_on, in_range, next_applicable, parents_then}
 use Rattle.par2_files.proofs.walk.absorbing_before.Goals.{After-is_after-in-loop-change, then-is_after, else-is_after, then-is_after-2+in_ok-pending_between-2+in_ok-push-2, else-is_after-2}
 use Rattle.par2_files.proofs.walk.absorbing_before.Goals as goal
@@ -56,3 +56,9 @@ loop-change-preserved c =
 
 pub returns : goal.returns
 returns c = arrived c.loop-change.invariant c.loop-change-test.false
+
+pub bounds-states-0 : goal.bounds-states-0
+bounds-states-0 c = in_range c.args.states.now 0 _ _ c.requires.absorbed
+
+pub overflow_add-place : goal.overflow_add-place
+overflow_add-place c = let low = in_range c.args.states.now c.loop-change.place _ _ c.loop-change.invariant.parents in omega arith

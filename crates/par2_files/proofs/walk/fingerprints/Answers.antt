@@ -1,4 +1,4 @@
-use Rattle.par2_files.proofs.Common.{◌≡◌, ◌∷◌, ◌++◌, ◌-◌, ◌∙◌, ℕ, Bor, List, ap, length, map, take, drop, arith, drop-append_seam, take-append_seam, length-append, length-map, map-append, md5, buffers_of, fingerprint, folders_after, taken_are_applicable, group_buffers, change_of, End}
+use Rattle.par2_files.proofs.Common.{common_steps, ◌≡◌, ◌∷◌, ◌++◌, ◌-◌, ◌∙◌, ℕ, Bor, List, ap, length, map, take, drop, arith, drop-append_seam, take-append_seam, length-append, length-map, map-append, md5, buffers_of, fingerprint, folders_after, taken_are_applicable, group_buffers, change_of, End}
 use Rattle.par2_files.proofs.Walks.{all_fingerprints}
 use Rattle.par2_files.proofs.walk.fingerprints.Goals as goal
 
@@ -37,3 +37,6 @@ absorbing_before-requires-clause-further c = c.comes_before.ensures.further c.if
 
 pub absorbing_before-requires-2-clause-applicable : goal.absorbing_before-requires-2-clause-applicable
 absorbing_before-requires-2-clause-applicable c = taken_are_applicable c.args.folder.now (map change_of c.args.changes.now) c.requires.taken
+
+pub loop-name-preserved : goal.loop-name-preserved
+loop-name-preserved c = grind (arith, common_steps)

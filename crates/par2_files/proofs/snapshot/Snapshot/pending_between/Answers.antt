@@ -1,4 +1,4 @@
-use Rattle.par2_files.proofs.Common.{is_before, ◌-◌, ◌∙◌, ap, map, take, drop, take_all, file_of, fingerprint_input}
+use Rattle.par2_files.proofs.Common.{arith, common_steps, is_before, ◌-◌, ◌∙◌, ap, map, take, drop, take_all, file_of, fingerprint_input}
 use Rattle.par2_files.proofs.SortedFiles.{between, front_further}
 use Rattle.par2_files.proofs.snapshot.Snapshot.pending_between.Goals as goal
 
@@ -15,3 +15,6 @@ returns c = λ held.
     c.loop-file.invariant
     ∙ ap (λ files. fingerprint_input (map file_of files)) (take_all c.loop-file.file-index (take (end - start) (drop start c.deref.result.now)) c.loop-file-test.false ∙ ap (λ files. take (end - start) (drop start files)) c.deref.ensures.value) in
     (_, (held, between items kept c.args.from c.args.to start end _ front longer le parts))
+
+pub loop-file-preserved : goal.loop-file-preserved
+loop-file-preserved c = grind (arith, common_steps)
