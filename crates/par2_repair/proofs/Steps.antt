@@ -1,9 +1,8 @@
 -- What `auto` is given, by the function that needs it.
-use Rattle.par2_repair.proofs.Common.{IfOk-weaker, MatchOption-at_some, YieldsList-from_map, YieldsList-from_slice, answered_so, append-nil, append_assoc, both_ways, bytes_eq-Decides, drop_all, drop_more, eq-eqb, err_again, err_from_is_err_and, err_passed, false_from_ne_true, items_from_collect, length-append, list_all-map, map-append, map-map, ne_eqb, ok_no_err, refused_by, slice_eq-Decides, std_from_distinct, take_all}
-use Rattle.par2_repair.proofs.RepairParts.{changes_are, not_repairable, removals_are, purge_as_verify, purge_by_set, purge_refused, purge_unread, repair_as_verify, repair_refused, repair_unread, whole_if_matched, all_present, all_there, base_first, extra_first, is_early, none_absent, not_early, unread, distinct_once}
+use Rattle.par2_repair.proofs.Common.{IfOk-weaker, MatchOption-at_some, YieldsList-from_map, YieldsList-from_slice, append-nil, append_assoc, both_ways, bytes_eq-Decides, drop_all, drop_more, eq-eqb, err_again, err_from_is_err_and, err_passed, false_from_ne_true, items_from_collect, length-append, list_all-map, map-append, map-map, ne_eqb, ok_no_err, refused_by, slice_eq-Decides, take_all}
+use Rattle.par2_repair.proofs.RepairParts.{changes_are, removals_are, base_first, extra_first, none_absent}
 use Rattle.par2_spec.proofs.Places.{position-map}
 use Rattle.par2_spec.proofs.MovesLaws.{no_names_file}
-use Rattle.par2_repair.proofs.Drafts.{is_draft}
 use Rattle.par2_repair.proofs.Restoring.{lost_fault, no_fault}
 use Rattle.par2_repair.proofs.ReportValues.{refused_in}
 
@@ -11,15 +10,9 @@ pub ruleset tested = (both_ways, bytes_eq-Decides, slice_eq-Decides)
 
 pub ruleset repair_changes = (append_assoc, changes_are, removals_are)
 
-pub ruleset plan_purge = (err_from_is_err_and, ok_no_err, refused_by, err_passed, purge_as_verify, purge_unread, purge_refused, purge_by_set)
-
 pub ruleset base_name = (err_from_is_err_and, err_again, position-map, base_first, extra_first, none_absent)
 
 pub ruleset present = (false_from_ne_true, both_ways, no_names_file)
-
-pub ruleset read = (err_from_is_err_and, err_again, answered_so, unread, all_present, all_there, is_early, not_early)
-
-pub ruleset draft_repair = (err_from_is_err_and, IfOk-weaker, std_from_distinct, ok_no_err, refused_by, err_passed, distinct_once, is_draft, repair_as_verify, repair_unread, whole_if_matched, repair_refused)
 
 pub ruleset md5s_of = (YieldsList-from_map, YieldsList-from_slice, items_from_collect)
 

@@ -74,7 +74,6 @@ fn parted<'s>(
 }
 
 // The candidates that aren't names of intact targets, in order. A file that is in its place is no match.
-#[tactic(auto, using(std::proofs::lemmas::List::take_all))]
 fn free_names<'n>(alloc: Global, intact: BTreeSet<&'n Name>, names: &'n [Name]) -> Result<Vec<Name>>
     ensures { (all : List (List ℕ)) → HoldsNames intact.entry all →
         Lists (filter (λ name. not (is_among all name)) names.now) result }

@@ -56,7 +56,6 @@ fn base_name(folder: &Folder, base: &str, extras: &[String]) -> Result<Name, Fau
 }
 
 /// Reads the set of the base. A file that is absent is the first fault, and finding it takes no memory.
-#[tactic(auto, using(crate::proofs::Steps::read))]
 pub fn read<'a>(
     alloc: Global,
     folder: &'a Folder,

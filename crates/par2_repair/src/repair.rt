@@ -165,7 +165,6 @@ fn md5s_of(alloc: Global, restored: &[Restored]) -> Result<Vec<[u8; 16]>>
 /// written from found or rebuilt slices. With `purge`, the asides that are left and the set's PAR2 files are then
 /// removed. The MD5s of the written files are left to check, because `par2_journal` computes them beside fingerprints.
 /// A wrong one is the last cause of a refusal. Memory is reported only if an allocation fails.
-#[tactic(auto, using(crate::proofs::Steps::draft_repair))]
 pub fn draft_repair(
     alloc: Global,
     folder: &Folder,
@@ -320,7 +319,6 @@ fn purge_of(alloc: Global, folder: &Folder, set: &ParSet, own: &[Name]) -> Resul
 
 /// The changes of a purge, which removes the set's PAR2 files if all targets are complete, and is refused otherwise.
 /// Memory is reported only if an allocation fails.
-#[tactic(auto, using(crate::proofs::Steps::plan_purge))]
 pub fn plan_purge(alloc: Global, folder: &Folder, base: &str) -> Result<Changes, Fault>
     // It is refused as the definitions say, or memory ran out; early refusals need no memory.
     ensures refused { FailsAs folder.now.files (Purge base.now) result }

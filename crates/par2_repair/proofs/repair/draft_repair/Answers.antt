@@ -1,7 +1,7 @@
-use Rattle.par2_repair.proofs.Common.{◌≡◌, ◌∙◌, ◌⊎◌, List, [], ℕ, length, map, sym, ap, subst, string_bytes, None, Some, Option, AllByRecursion, err_from_is_err_and, refused_by, candidates, matches, names_without_match, refusal, Repair, rebuilt_targets, names_there, long_aside, put_aside, undetermined_fault, ParSet, Target}
-use Rattle.par2_repair.proofs.RepairParts.{determined, whole_if_matched, repair_refused, not_repairable, too_long, by_digests, put_aside_in}
-use Rattle.par2_repair.proofs.Drafts.{IsDraftBy, is_draft}
-use Rattle.par2_repair.proofs.repair.draft_repair.Goals.{In_ok-restored}
+use Rattle.par2_repair.proofs.Common.{◌≡◌, ◌∙◌, ◌⊎◌, List, [], ℕ, length, map, sym, ap, subst, string_bytes, None, Some, Err, Option, Fault, AllByRecursion, IsDistinct, bytes_eq, std_from_distinct, err_from_is_err_and, err_passed, ok_no_err, refused_by, early_refusal, set_in, candidates, matches, names_without_match, refusal, Repair, rebuilt_targets, names_there, long_aside, undetermined_fault, ParSet, Target}
+use Rattle.par2_repair.proofs.RepairParts.{determined, distinct_once, whole_if_matched, repair_as_verify, repair_refused, repair_unread, not_repairable, too_long, by_digests, put_aside_in}
+use Rattle.par2_repair.proofs.Drafts.{is_draft}
+use Rattle.par2_repair.proofs.repair.draft_repair.Goals.{In_ok-reading, In_ok-restored}
 use Rattle.par2_repair.proofs.repair.draft_repair.Goals as goal
 
 -- the names that are searched
@@ -26,6 +26,43 @@ reported c =
 pub restored_files-requires : goal.restored_files-requires
 restored_files-requires c =
     c.deref-4.ensures.value ∙ c.in_ok-incomplete.ensures ∙ ap (matches c.args.folder.now.files c.in_ok-reading.reading.set) (c.deref-2.ensures.value ∙ sym c.deref-3.ensures.value)
+
+pub matches-requires : goal.matches-requires
+matches-requires c = subst (IsDistinct bytes_eq) (sym (c.deref-2.ensures.value ∙ c.in_ok-candidates.ensures)) (std_from_distinct _ (distinct_once _))
+
+-- after reading, no early refusal is left
+late : (c : In_ok-reading) (fault : Fault) → early_refusal c.args.folder.now.files (Repair c.args.base.now (map string_bytes c.args.extras.now) c.args.purge) ≡ Some fault → ⊥
+late c fault early = ok_no_err c.in_ok-reading.reading fault (c.in_ok-reading.ensures.early fault (repair_as_verify c.args.folder.now.files c.args.base.now (map string_bytes c.args.extras.now) c.args.purge ∙ early))
+
+pub returns-in_err-reading-clause-early : goal.returns-in_err-reading-clause-early
+returns-in_err-reading-clause-early c fault early =
+    err_passed c.from_residual.result c.in_err-reading.field-0.0 fault (err_from_is_err_and c.from_residual.result c.from_residual.ensures.1)
+    (sym c.in_err-reading.was ∙ c.read.ensures.early fault (repair_as_verify c.args.folder.now.files c.args.base.now (map string_bytes c.args.extras.now) c.args.purge ∙ early))
+
+pub returns-in_err-candidates-clause-early : goal.returns-in_err-candidates-clause-early
+returns-in_err-candidates-clause-early c fault early = absurd (late (goal.at.returns-in_err-candidates-clause-early c).In_ok-reading fault early)
+
+pub returns-in_err-incomplete-clause-early : goal.returns-in_err-incomplete-clause-early
+returns-in_err-incomplete-clause-early c fault early = absurd (late (goal.at.returns-in_err-incomplete-clause-early c).In_ok-reading fault early)
+
+pub returns-in_err-restored-clause-early : goal.returns-in_err-restored-clause-early
+returns-in_err-restored-clause-early c fault early = absurd (late (goal.at.returns-in_err-restored-clause-early c).In_ok-reading fault early)
+
+pub returns-in_err-md5s-clause-early : goal.returns-in_err-md5s-clause-early
+returns-in_err-md5s-clause-early c fault early = absurd (late (goal.at.returns-in_err-md5s-clause-early c).In_ok-reading fault early)
+
+pub returns-in_err-changes-clause-early : goal.returns-in_err-changes-clause-early
+returns-in_err-changes-clause-early c fault early = absurd (late (goal.at.returns-in_err-changes-clause-early c).In_ok-reading fault early)
+
+pub returns-clause-early : goal.returns-clause-early
+returns-clause-early c fault early = absurd (late (goal.at.returns-clause-early c).In_ok-reading fault early)
+
+pub returns-in_err-reading-clause-refused : goal.returns-in_err-reading-clause-refused
+returns-in_err-reading-clause-refused c =
+    let folder = c.args.folder.now.files in
+    let extras : List (List ℕ) = map string_bytes c.args.extras.now in
+    refused_by (λ y. set_in folder c.args.base.now extras ≡ Err y) (λ y. refusal folder (Repair c.args.base.now extras c.args.purge) ≡ Some y) c.from_residual.result c.in_err-reading.field-0.0
+    (err_from_is_err_and c.from_residual.result c.from_residual.ensures.1) c.in_err-reading.ensures.set (repair_unread folder c.args.base.now extras c.args.purge c.in_err-reading.field-0.0)
 
 pub returns-in_err-restored-clause-refused : goal.returns-in_err-restored-clause-refused
 returns-in_err-restored-clause-refused c =

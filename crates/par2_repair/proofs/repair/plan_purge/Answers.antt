@@ -1,6 +1,30 @@
-use Rattle.par2_repair.proofs.Common.{◌≡◌, ◌∙◌, List, sym, ap, subst, IsTrue, IfOk, IfOk-weaker, Change, effects, are_applicable, Purge, changes_of, after}
-use Rattle.par2_repair.proofs.RepairParts.{purge_by_set, purge_leads}
+use Rattle.par2_repair.proofs.Common.{◌≡◌, ◌⊎◌, ◌∙◌, List, [], sym, ap, subst, Err, IsTrue, IfOk, IfErr, err_from_is_err_and, IfOk-weaker, Change, effects, are_applicable, Purge, changes_of, set_in, refusal, after, Fault, Memory, ok_no_err, refused_by, err_passed, Some, None, Option}
+use Rattle.par2_repair.proofs.RepairParts.{purge_as_verify, purge_unread, purge_refused, purge_by_set, purge_leads}
 use Rattle.par2_repair.proofs.repair.plan_purge.Goals as goal
+
+pub returns-in_err-reading-clause-early : goal.returns-in_err-reading-clause-early
+returns-in_err-reading-clause-early c fault early =
+    err_passed c.from_residual.result c.in_err-reading.field-0.0 fault (err_from_is_err_and c.from_residual.result c.from_residual.ensures.1) (sym c.in_err-reading.was ∙ c.read.ensures.early fault (purge_as_verify c.args.folder.now.files c.args.base.now ∙ early))
+
+pub returns-clause-early : goal.returns-clause-early
+returns-clause-early c fault early = absurd (ok_no_err c.in_ok-reading.reading fault (c.in_ok-reading.ensures.early fault (purge_as_verify c.args.folder.now.files c.args.base.now ∙ early)))
+
+pub returns-in_err-reading-clause-refused : goal.returns-in_err-reading-clause-refused
+returns-in_err-reading-clause-refused c =
+    let folder = c.args.folder.now.files in
+    let fault = c.in_err-reading.field-0.0 in
+    refused_by (λ y. set_in folder c.args.base.now [] ≡ Err y) (λ y. refusal folder (Purge c.args.base.now) ≡ Some y) c.from_residual.result fault
+    (err_from_is_err_and c.from_residual.result c.from_residual.ensures.1) c.in_err-reading.ensures.set (purge_unread folder c.args.base.now fault)
+
+pub returns-clause-refused : goal.returns-clause-refused
+returns-clause-refused c =
+    let reason = purge_refused c.args.folder.now.files c.args.base.now c.in_ok-reading.reading.set c.in_ok-reading.ensures.set in
+    subst (λ (o : Option Fault). IfErr c.purge_of.result (λ y. (y ≡ Memory) ⊎ (o ≡ Some y))) (sym reason) c.purge_of.ensures.refused
+
+pub returns-clause-accepted : goal.returns-clause-accepted
+returns-clause-accepted c =
+    let reason = purge_refused c.args.folder.now.files c.args.base.now c.in_ok-reading.reading.set c.in_ok-reading.ensures.set in
+    subst (λ (o : Option Fault). IfOk c.purge_of.result (λ _. o ≡ None)) (sym reason) c.purge_of.ensures.accepted
 
 pub returns-clause-changes : goal.returns-clause-changes
 returns-clause-changes c =

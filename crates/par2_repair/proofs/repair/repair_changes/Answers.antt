@@ -1,4 +1,4 @@
-use Rattle.par2_repair.proofs.Common.{◌≡◌, ◌∙◌, ℕ, List, Option, map, sym, ap, arith, append_assoc, matches, aside, put_aside, place_in, now_at, Target}
+use Rattle.par2_repair.proofs.Common.{◌≡◌, ◌∙◌, ℕ, List, Option, map, sym, ap, subst, Some, None, err_from_is_err_and, refused_by, long_aside, names_there, arith, append_assoc, matches, aside, put_aside, place_in, now_at, Target}
 use Rattle.par2_repair.proofs.RepairParts.{asides_are, changes_are, removals_are, put_aside_in}
 use Rattle.par2_repair.proofs.repair.repair_changes.Goals.{In_ok-asides}
 use Rattle.par2_repair.proofs.repair.repair_changes.Goals as goal
@@ -30,3 +30,17 @@ returns-clause-changes c = λ searched own e targets.
     let files = c.in_ok-files.ensures folder (c.deref-5.ensures.value ∙ own) in
     let removals = removals_are folder set searched c.in_ok-asides.asides (held at searched e) c.in_ok-matching.matching _ c.deref-6.result.now c.deref-7.result.now c.in_ok-matching.ensures e (c.deref-6.ensures.value ∙ put at searched e) (c.deref-7.ensures.value ∙ files) in
     grind (arith, append_assoc, all, removals)
+
+pub returns-in_err-others-clause-refused : goal.returns-in_err-others-clause-refused
+returns-in_err-others-clause-refused c =
+    let folder = c.args.folder.now.files in
+    let set = c.args.reading.now.set in
+    let fault = c.in_err-others.field-0.0 in
+    refused_by (λ y. long_aside folder set c.deref.result.now ≡ Some y) (λ y. long_aside folder set (names_there folder c.args.incomplete.now) ≡ Some y) c.from_residual-in_err-others.result fault
+    (err_from_is_err_and c.from_residual-in_err-others.result c.from_residual-in_err-others.ensures.1) c.in_err-others.ensures.refused (subst (λ ns. long_aside folder set ns ≡ Some fault) (c.deref.ensures.value ∙ c.in_ok-put_aside.ensures))
+
+pub returns-then-not-purge-clause-short : goal.returns-then-not-purge-clause-short
+returns-then-not-purge-clause-short c = subst (λ ns. long_aside c.args.folder.now.files c.args.reading.now.set ns ≡ None) (c.deref.ensures.value ∙ c.in_ok-put_aside.ensures) c.in_ok-others.ensures.short
+
+pub returns-clause-short : goal.returns-clause-short
+returns-clause-short c = subst (λ ns. long_aside c.args.folder.now.files c.args.reading.now.set ns ≡ None) (c.deref.ensures.value ∙ c.in_ok-put_aside.ensures) c.in_ok-others.ensures.short

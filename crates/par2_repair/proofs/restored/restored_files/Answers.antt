@@ -1,6 +1,6 @@
-use Rattle.par2_repair.proofs.Common.{◌≡◌, ◌∙◌, List, [], ℕ, Bor, length, length-map, map, sym, ap, ap₂, inl, rules, subst, list_any, is_at, is_among, Option, nil_from_length, all-filter, buffers_of, lists_of, names_without_match, rebuilt, known, padded, files_of_slices, slice_cmp, nat_cmp, contains, AllByRecursion, Target, with_lost_slices}
+use Rattle.par2_repair.proofs.Common.{◌≡◌, ◌∙◌, List, [], ℕ, Bor, length, length-map, map, refl, sym, ap, ap₂, inl, inr, rules, subst, list_any, is_at, is_among, Option, nil_from_length, all-filter, buffers_of, lists_of, names_without_match, rebuilt, known, padded, slice_cmp, nat_cmp, contains, AllByRecursion, Target, with_lost_slices}
 use Rattle.par2_repair.proofs.RepairParts.{none_rebuilt, targets_are}
-use Rattle.par2_repair.proofs.Restoring.{found_ones, all_slices, all_lengths, all_counted, no_names}
+use Rattle.par2_repair.proofs.Restoring.{found_ones, all_slices, all_lengths, all_counted, no_names, no_fault}
 use Rattle.par2_repair.proofs.restored.restored_files.Goals.{Then-is_empty, In_ok-cut_out}
 use Rattle.par2_repair.proofs.restored.restored_files.Goals as goal
 
@@ -45,3 +45,6 @@ returns-clause-lengths c =
     subst (AllByRecursion (λ t. length t.1 ≡ t.0.length)) (sym c.in_ok-cut_out.ensures)
     (all-filter (λ (t : Target × List ℕ). length t.1 ≡ t.0.length) (λ t. contains (slice_cmp nat_cmp) c.in_ok-unmatched.unmatched t.0.name) _
     (all_lengths c.args.folder.now.files c.args.set.now c.args.candidates.now c.in_ok-survivors.survivors c.in_ok-survivors.ensures.are (lists_of c.in-Ok.rebuilt.items) c.in-Ok.ensures.rebuilt c.written_files_have_their_length.ensures _ (merged (goal.at.returns-clause-lengths c).In_ok-cut_out)))
+
+pub returns-clause-determined : goal.returns-clause-determined
+returns-clause-determined c = inr (no_fault c.args.folder.now.files c.args.set.now c.args.candidates.now c.in_ok-survivors.survivors c.in_ok-survivors.ensures.are c.tests_say_the_words.ensures (c.in-Ok.ensures.enough refl))
