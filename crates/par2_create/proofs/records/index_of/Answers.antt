@@ -1,6 +1,12 @@
 use Rattle.par2_create.proofs.Common.{sym}
-use Rattle.par2_create.proofs.IndexBytes.{index_bytes, appended_all}
+use Rattle.par2_create.proofs.IndexBytes.{index_bytes, appended_all, appended_next}
 use Rattle.par2_create.proofs.records.index_of.Goals as goal
+
+pub loop-file-preserved : goal.loop-file-preserved
+loop-file-preserved c = appended_next _ c.args.files.now c.loop-file.file-index c.file-item.result _ _ _ c.loop-file-test.true c.file-item.is c.loop-file.invariant c.in_ok-append_desc.ensures.ok
+
+pub loop-entry-preserved : goal.loop-entry-preserved
+loop-entry-preserved c = appended_next _ c.args.files.now c.loop-entry.entry-index c.entry-item.result _ _ _ c.loop-entry-test.true c.entry-item.is c.loop-entry.invariant c.in_ok-append_ifsc.ensures.ok
 
 pub returns-clause-bytes : goal.returns-clause-bytes
 returns-clause-bytes c =

@@ -1,0 +1,10 @@
+use Rattle.par2_create.proofs.Common.{◌∙◌, ap, record_of}
+use Rattle.par2_create.proofs.FileRecords.{digest_at, record_push}
+use Rattle.par2_create.proofs.records.file_records.Goals as goal
+
+pub file_record_by_md5-requires-clause-digest : goal.file_record_by_md5-requires-clause-digest
+file_record_by_md5-requires-clause-digest c = digest_at c.args.inputs.now c.args.md5s.now c.loop-i.i _ c.index-inputs-i.result c.requires.md5s c.loop-i-test.true c.index-inputs-i.is
+
+pub loop-i-preserved : goal.loop-i-preserved
+loop-i-preserved c =
+    rw c.in_ok-push.ensures.items (record_push c.args.s c.args.inputs.now c.loop-i.i c.index-inputs-i.result c.loop-i.records.items c.in_ok-record.record c.loop-i-test.true c.index-inputs-i.is c.loop-i.invariant (c.in_ok-record.ensures ∙ ap (λ name. record_of c.args.s (name, c.index-inputs-i.result.bytes.now)) c.as_str.ensures.bytes))
