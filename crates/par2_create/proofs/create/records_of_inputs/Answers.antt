@@ -1,4 +1,5 @@
-use Rattle.par2_create.proofs.Common.{◌≡◌, ◌∙◌, ap, sym, refl, subst, inr, None, Option, Fault, DuplicateId, Some, map, string_bytes, files_of, input_file, inputs_fault, files_fault, ids_fault, duplicate_input, create_args_of, AreRecords, false≢true}
+use Rattle.par2_create.proofs.Common.{◌≡◌, ◌∙◌, ap, sym, refl, subst, inr, None, Option, Fault, DuplicateId, Some, map, string_bytes, files_of, input_file, inputs_fault, files_fault, ids_fault, duplicate_input, create_args_of, AreRecords, false≢true, buffers_of, Input}
+use Rattle.md5.specs.Md5.{md5}
 use Rattle.par2_create.proofs.FileRecords.{ids_accepted, ids_refused}
 use Rattle.par2_create.proofs.Refusals.{inputs_by}
 use Rattle.par2_create.proofs.create.records_of_inputs.Goals.{In_ok-records}
@@ -31,3 +32,7 @@ returns-in-Ok-clause-records c =
 pub returns-clause-refused : goal.returns-clause-refused
 returns-clause-refused c =
     inr (by_ids (goal.at.returns-clause-refused c).In_ok-records (Some DuplicateId) (ids_refused _ _ c.in_ok-records.records.items c.in_ok-records.ensures (λ once. false≢true (c.in-Err.ensures.distinct.1 once))))
+
+pub file_records-requires-clause-md5s : goal.file_records-requires-clause-md5s
+file_records-requires-clause-md5s c =
+    c.deref-8.ensures.value ∙ c.in_ok-checkpointed.ensures.beside ∙ ap (map md5) (ap buffers_of c.deref-6.ensures.value ∙ c.in_ok-contents.ensures ∙ ap (map (λ (input : Input). input.bytes.now)) (c.deref-5.ensures.value ∙ sym c.deref-7.ensures.value))
