@@ -1,5 +1,5 @@
 use Rattle.par2_spec.proofs.ListsLaws.{by_either}
-use Rattle.par2_arguments.proofs.Common.{◌≡◌, ◌∙◌, ap, subst, sym, true≢false, string_bytes, map, Some, is_some, option_and_then, IfErr-weaker, IfOk-weaker, err_from_is_err_and, App, HasMatchesOf, found_of, rows_of, subcommand_of, meaning, par2_app}
+use Rattle.par2_arguments.proofs.Common.{◌≡◌, ◌∙◌, ap, subst, sym, true≢false, string_bytes, map, true, takes, Some, is_some, option_and_then, IfErr-weaker, IfOk-weaker, err_from_is_err_and, App, HasMatchesOf, found_of, rows_of, subcommand_of, meaning, par2_app}
 use Rattle.par2_arguments.proofs.Subcommands.{faultless, known, met, unmet}
 use Rattle.par2_arguments.proofs.read.read_words.Goals.{In-Ok, In-Some}
 use Rattle.par2_arguments.proofs.read.read_words.Goals as goal
@@ -30,3 +30,7 @@ returns-in-Some-clause-arguments c = λ taken there.
 pub returns-in-Ok-clause-arguments : goal.returns-in-Ok-clause-arguments
 returns-in-Ok-clause-arguments c = λ taken there.
     absurd (unmet c.in-Ok.matches (map string_bytes c.args.words.now) (matches_so (goal.at.returns-in-Ok-clause-arguments c).In-Ok) c.in-None.ensures.name there)
+
+pub returns-clause-arguments : goal.returns-clause-arguments
+returns-clause-arguments c = λ taken there.
+    c.fault_for.ensures.memory (c.in-Err.ensures.passes (subst (λ (app : App). takes app (map string_bytes c.args.words.now) ≡ true) (sym c.in_ok-par2_command.ensures.0) taken))
