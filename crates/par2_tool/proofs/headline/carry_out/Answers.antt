@@ -143,3 +143,15 @@ returns-clause-possible g c = possible_so g (goal.at.returns-clause-possible g c
 
 pub returns-in_err-outcome-clause-possible : goal.returns-in_err-outcome-clause-possible
 returns-in_err-outcome-clause-possible g c = possible_so g (goal.at.returns-in_err-outcome-clause-possible g c).After-perform
+
+pub returns-clause-honest : goal.returns-clause-honest
+returns-clause-honest g c honest = c.in_ok-outcome.ensures.keeps.honest (c.in_ok-started.ensures.keeps.honest honest)
+
+pub returns-in_err-outcome-clause-honest : goal.returns-in_err-outcome-clause-honest
+returns-in_err-outcome-clause-honest g c honest = c.in_err-outcome.ensures.keeps.honest (c.in_ok-started.ensures.keeps.honest honest)
+
+pub returns-in_err-started-clause-possible : goal.returns-in_err-started-clause-possible
+returns-in_err-started-clause-possible g c honest = (c.in_err-started.ensures.opens honest).possible
+
+pub returns-then-lacks_history-clause-possible : goal.returns-then-lacks_history-clause-possible
+returns-then-lacks_history-clause-possible g c honest = (c.in_ok-started.ensures.opens honest).possible

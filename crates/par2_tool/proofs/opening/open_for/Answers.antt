@@ -1,5 +1,5 @@
-use Rattle.par2_tool.proofs.Common.{rules, Some, Ok, sym, ap, subst, ◌∙◌, Vec, ℕ, inl, inr, refl, IfOk, option_map, Global, Started, started_of, IsOpened, WasRead}
-use Rattle.par2_tool.proofs.Openings.{bytes_read, opens_after_reading, reads_opens, opened_as_is, opened_new, stands}
+use Rattle.par2_tool.proofs.Common.{err_from_is_err_and, Some, Ok, sym, ap, subst, ◌∙◌, Vec, ℕ, inl, inr, refl, IfOk, option_map, Global, Started, started_of, IsOpened, WasRead}
+use Rattle.par2_tool.proofs.Openings.{bytes_read, keeps_on, opens_after_reading, reads_opens, opened_as_is, opened_new, stands}
 use Rattle.par2_tool.proofs.opening.open_for.Goals.{After-open_with}
 use Rattle.par2_tool.proofs.opening.open_for.Goals as goal
 
@@ -52,9 +52,14 @@ returns-clause-opens g c honest =
     opens_after_reading g.S.Store c.args.store.now c.read_store.new.store c.open_with.new.store c.open_with.result reads honest (c.read_store.ensures.possible honest)
     (c.open_with.ensures.opens (reads.honest honest) read).1
 
+pub returns-clause-keeps : goal.returns-clause-keeps
+returns-clause-keeps g c = keeps_on g.S.Store c.args.store.now c.read_store.new.store c.open_with.new.store _ c.open_with.result c.in_ok-folder.ensures.keeps c.open_with.ensures.keeps
+
 pub returns-in_err-folder-clause-opens : goal.returns-in_err-folder-clause-opens
 returns-in_err-folder-clause-opens g c honest =
-    reads_opens g.S.Store c.args.store.now c.read_store.new.store c.from_residual.result c.read_store.ensures.reads honest (c.read_store.ensures.possible honest) (search rules)
+    let p = err_from_is_err_and c.from_residual.result c.from_residual.ensures.1 in
+    reads_opens g.S.Store c.args.store.now c.read_store.new.store c.from_residual.result c.read_store.ensures.reads honest (c.read_store.ensures.possible honest)
+    (rw (p.1, p.2) (c.in_err-folder.ensures.refused honest))
 
 pub returns-in_default-clause-opens : goal.returns-in_default-clause-opens
 returns-in_default-clause-opens g c honest =
@@ -62,7 +67,9 @@ returns-in_default-clause-opens g c honest =
 
 pub returns-in_err-needs_no_history-clause-opens : goal.returns-in_err-needs_no_history-clause-opens
 returns-in_err-needs_no_history-clause-opens g c honest =
-    reads_opens g.S.Store c.args.store.now c.read_store.new.store c.from_residual-in_err-needs_no_history.result c.read_store.ensures.reads honest (c.read_store.ensures.possible honest) (search rules)
+    let p = err_from_is_err_and c.from_residual-in_err-needs_no_history.result c.from_residual-in_err-needs_no_history.ensures.1 in
+    reads_opens g.S.Store c.args.store.now c.read_store.new.store c.from_residual-in_err-needs_no_history.result c.read_store.ensures.reads honest (c.read_store.ensures.possible honest)
+    (rw (p.1, p.2) (c.read_store.ensures.reads.same honest))
 
 pub returns-then-branch-clause-opens : goal.returns-then-branch-clause-opens
 returns-then-branch-clause-opens g c honest =

@@ -1,5 +1,5 @@
-use Rattle.par2_tool.proofs.Common.{rules, inl, refl, ◌≡◌, IsTrue, map, length, sym, ap, subst, ◌∙◌, arith, None, length-map, are_applicable, session_of_kept, change_of, session_before, way_left, Contents, IsStillHalfway, IsStoppedAt}
-use Rattle.par2_tool.proofs.Openings.{any_err, still_halfway}
+use Rattle.par2_tool.proofs.Common.{inl, refl, ◌≡◌, IsTrue, map, length, sym, ap, subst, ◌∙◌, arith, None, length-map, are_applicable, session_of_kept, change_of, session_before, way_left, err_from_is_err_and, with_journal, with_all_changes, Contents, IsStillHalfway, IsStoppedAt}
+use Rattle.par2_tool.proofs.Openings.{still_halfway}
 use Rattle.par2_tool.proofs.opening.take_back.Goals.{After-write_down}
 use Rattle.par2_tool.proofs.opening.take_back.Goals as goal
 
@@ -13,15 +13,15 @@ still_so g c left stop =
 
 pub returns-in_err-settled-clause-taken : goal.returns-in_err-settled-clause-taken
 returns-in_err-settled-clause-taken g c honest =
-    let start = g.S.Store.contents c.args.store.now in
-    record {
-      done = search rules;
-      stopped = any_err c.from_residual.result (IsStillHalfway (session_of_kept (session_before c.args.halfway)) (way_left c.args.halfway) start start) (inl (0, omega arith, refl));
+    let p = err_from_is_err_and c.from_residual.result c.from_residual.ensures.1 in
+    rw (p.1, p.2) (record {
+      done = tt;
+      stopped = inl (0, omega arith, refl);
       remains = λ durable left may. inl (0, omega arith, durable left may);
-      refused = search rules;
+      refused = refl;
       possible = λ _. refl;
-      calls = search rules;
-    }
+      calls = record { done = tt; refused = refl };
+    })
 
 -- the writing calls of the way back
 way_length : (g : _) (c : After-write_down g) → length c.changes.result.now ≡ length (way_left c.args.halfway)
@@ -31,7 +31,7 @@ pub returns-in-Ok-clause-taken : goal.returns-in-Ok-clause-taken
 returns-in-Ok-clause-taken g c honest =
     let number = way_length g (goal.at.returns-in-Ok-clause-taken g c).After-write_down in
     record {
-      done = search rules;
+      done = (c.in_ok-settled.field-0.items, c.in_ok-settled.ensures, c.in-Ok.ensures.done honest ∙ ap (λ changes. with_journal (with_all_changes (g.S.Store.contents c.args.store.now) changes) c.in_ok-settled.field-0.items) c.changes.ensures);
       stopped = tt;
       remains = λ durable left may. still_so g (goal.at.returns-in-Ok-clause-taken g c).After-write_down left (c.write_down.ensures.remains honest durable left may);
       refused = tt;

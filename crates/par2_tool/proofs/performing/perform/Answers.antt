@@ -85,6 +85,9 @@ returns-in_err-journals-clause-stored g c =
     let p = err_from_is_err_and c.from_residual.result c.from_residual.ensures.1 in
     stays_on g.S.Store c.args.command.now c.args.store.now _ _ c.from_residual.result (IfOk-from_err c.from_residual.result _ c.from_residual.ensures.0) (rw p.1 (Plan Memory, p.2)) (no_verify c.args.command.now c.in-Act.action c.in-Act.is)
 
+pub returns-in-Ok-write_down-clause-at_once : goal.returns-in-Ok-write_down-clause-at_once
+returns-in-Ok-write_down-clause-at_once g c = none_at_once g (goal.at.returns-in-Ok-write_down-clause-at_once g c).In-Ok-prepare _
+
 pub returns-in-Err-write_down-clause-at_once : goal.returns-in-Err-write_down-clause-at_once
 returns-in-Err-write_down-clause-at_once g c = none_at_once g (goal.at.returns-in-Err-write_down-clause-at_once g c).In-Ok-prepare _
 
