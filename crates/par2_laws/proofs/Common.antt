@@ -14,7 +14,7 @@ pub use Rattle.par2_spec.specs.Prelude.{FitsCreate, FollowsCreate, IsDamage, may
 pub use Rattle.par2_spec.proofs.FilesLaws.{at_name, names_of_files, made_size, purged_files, repaired_files, right_digests, size_even}
 pub use Rattle.par2_spec.proofs.ListsLaws.{all-filter_map, found_at_key, distinct_same, all_none, at_none, where_none}
 pub use Rattle.par2_spec.proofs.OrderLaws.{moved-all, moved-ordered}
-pub use Rattle.par2_spec.proofs.SearchLaws.{all-entries, by_checksums, by_descriptions, by_main, by_profile, by_size, distinct_by_length, finished, mapped, no_slices, read_by, set_with, target_with}
+pub use Rattle.par2_spec.proofs.SearchLaws.{all-entries, distinct_by_length, finished, mapped, no_slices, read_by, set_with, target_with}
 pub use Rattle.par2_spec.proofs.WrittenSets.{desc_reads, ifsc_reads, index_reads, main_reads, recovery_slices_read}
 unfoldable pub use Rattle.par2_spec.specs.Prelude.{history_after, packets_of}
 pub use Rattle.par2_spec.specs.declared.Fault.TheVariants.{BadBase, BadCount, BadName, BadSet, BadSliceSize, DuplicateId, DuplicateInput, EmptyFile, Exists, Memory, NameTooLong, NoChecksums, NoDescription, NoInput, NoMain, NoPackets, NoSuchFile, NotRepairable, RepairFailed, TooManySlices}

@@ -17,10 +17,6 @@ pub below : {shift : ℕ} → (shift ≡ 13) ⊎ (shift ≡ 15) → (n : ℕ) �
 below (inl few) n low = omega (arith, few, low)
 below (inr many) n low = omega (arith, many, low)
 
--- a checksum's byte is in the table, and what is read there
-pub its_place : (shift crc : ℕ) (bytes : List ℕ) → crc < 2 ^ 32 → IsLong shift bytes → crc / 2 ^ shift < length bytes
-its_place shift crc bytes fits long = subst (λ (n : ℕ). crc / 2 ^ shift < n) (sym long.len) (within crc shift fits (below long.either 32 (omega arith)))
-
 pub replicate_at : {X : Type 0} (n i : ℕ) (x : X) → get_or (replicate n x) i x ≡ x
 replicate_at zero i x = refl
 replicate_at (suc n) zero x = refl

@@ -509,23 +509,6 @@ set_with id packets s targets = record { id = id; slice_size = s; targets = targ
 abbrev pub finished : List ℕ → List Packet → ℕ → List Target → Result ParSet Fault
 finished id packets s targets = Ok (set_with id packets s targets)
 
-abbrev pub by_checksums : List ℕ → List Packet → ℕ → List DescBody → Bool → Result ParSet Fault
-by_checksums id packets s described in_profile = ok_or (all_some (map (target_of packets s) described)) NoChecksums >>= finished id packets s
-
-abbrev pub by_profile : List ℕ → List Packet → ℕ → List DescBody → Result ParSet Fault
-by_profile id packets s described = unless (are_in_profile s described) BadSet >>= by_checksums id packets s described
-
-abbrev pub by_descriptions : List ℕ → List Packet → MainBody → Bool → Result ParSet Fault
-by_descriptions id packets main right_size = ok_or (all_some (map (description_of packets) main.ids)) NoDescription >>= by_profile id packets main.slice_size
-
-abbrev pub by_size : List ℕ → List Packet → MainBody → Result ParSet Fault
-by_size id packets main = unless (is_slice_size main.slice_size) BadSet >>= by_descriptions id packets main
-
-abbrev pub by_main : List ℕ → List (List ℕ) → Packet → Result ParSet Fault
-by_main base others first =
-    let packets = packets_with first.set_id (flat_map accepted (base ∷ others)) in
-    ok_or (main_of first.set_id packets) NoMain >>= by_size first.set_id packets
-
 -- the intermediate results of reading a set from these bytes
 pub record IsReadBy (base : List ℕ) (others : List (List ℕ)) (set : ParSet) : Type 0 where
   pub id : List ℕ

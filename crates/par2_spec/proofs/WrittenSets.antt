@@ -211,9 +211,6 @@ pairs_there : (pairs : List Pair) → ArePairs pairs → map pair_in (map pair_b
 pairs_there [] h = refl
 pairs_there (pair ∷ pairs) h = ap (λ (p : Pair). p ∷ map pair_in (map pair_bytes pairs)) (pair_there pair h.0) ∙ ap (λ (ps : List Pair). pair ∷ ps) (pairs_there pairs h.1)
 
-abbrev ifsc_of : List ℕ → List Pair → Option IfscBody
-ifsc_of id pairs = Some (record { id = id; pairs = pairs })
-
 pub ifsc_reads : (file : FileRecord) → length file.id ≡ 16 → AllByRecursion IsPair file.pairs
     → read_ifsc Ifsc (ifsc_bytes file) ≡ Some (record { id = file.id; pairs = file.pairs })
 ifsc_reads file long each = unfold read_ifsc in
@@ -260,9 +257,6 @@ stripped-padded name k none =
     take_at name (replicate k 0) (length bytes - suffix_len is_zero bytes) (omega (arith, size, zeros))
 
 -- ---- the body
-
-abbrev desc_of : List ℕ → List ℕ → List ℕ → ℕ → List ℕ → Option DescBody
-desc_of id digest short size name = Some (record { id = id; md5 = digest; md5_16k = short; length = size; name = name })
 
 at_16 : (a b c d e : List ℕ) → a ++ b ++ c ++ d ++ e ≡ a ++ (b ++ (c ++ (d ++ e)))
 at_16 a b c d e = simp append_assoc
