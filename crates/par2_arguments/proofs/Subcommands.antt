@@ -1,20 +1,5 @@
 -- A command after an argument or a subcommand was added.
-use Rattle.par2_arguments.proofs.Common.{arith, App, Rule, AddsArg, AddsSubcommand, with_rule, with_subcommand, Command, IsApp, ◌≡◌, ℕ, Bool, true, false, nat_lt, refl, List, [], ◌∷◌, map, Option, Some, None, Result, lt-ltb, ltb-true, codes, unwrap_or, option_map, MatchOption, list_all, Bor, bytes_eq, AllDigits, ParsesUnsigned, ReadsOne, Text, first_value, matched_of, one_text, raw_values, rows_of, flag_of, number, number_of, value_of, values_of, ◌∙◌, true≢false, ap, sym, subst, is_some, Box, find, HasMatchesOf, Row, Shape, app_of, built, fault_of, is_simple, is_simple_and_free, subcommand_name_of, subcommand_of, subcommand_rows, subcommand_rows_of, argument_words, entered, label_of, names_of, rows_at, meaning, clap_on_literals, par2_app, shape_of, start_app}
-use Rattle.std.specs.Char.{digit_value}
-use Rattle.std.proofs.lemmas.Bool.{and_parts}
-use Rattle.std.specs.Box.{box_value}
-use Rattle.std.proofs.lemmas.Option.{none-some}
-use Rattle.std.proofs.lemmas.List.Elements.{recursion_from_All}
-use Rattle.std.proofs.lemmas.List.Sums.{AllPass-from_list_all}
-use Rattle.clap.specs.Words.{rule_of}
-use Rattle.clap.specs.declared.builder.arg.Arg.{Arg}
-use Rattle.clap.specs.declared.parser.matches.Found.{Found}
-use Rattle.clap.proofs.WalkLemmas.{first_value-rows, one_text-rows, raw_values-rows}
-use Rattle.clap.specs.Walk.{answers_to, stop_after}
-use Rattle.clap.specs.declared.parser.matches.ArgMatches.{ArgMatches}
-use Rattle.clap.specs.declared.parser.matches.SubCommand.{SubCommand}
-use Rattle.clap.specs.declared.parser.matches.ArgMatches.TheViews.{out-ArgMatches, out-SubCommand}
-use Rattle.par2_spec.proofs.ListsLaws.{found_one}
+use Rattle.par2_arguments.proofs.Common.{arith, App, Rule, AddsArg, AddsSubcommand, with_rule, with_subcommand, Command, IsApp, ◌≡◌, ℕ, Bool, true, false, nat_lt, refl, List, [], ◌∷◌, map, Option, Some, None, Result, lt-ltb, ltb-true, codes, unwrap_or, option_map, MatchOption, list_all, Bor, bytes_eq, AllDigits, ParsesUnsigned, ReadsOne, Text, first_value, matched_of, one_text, raw_values, rows_of, flag_of, number, number_of, value_of, values_of, ◌∙◌, true≢false, ap, sym, subst, is_some, Box, find, HasMatchesOf, Row, Shape, app_of, built, fault_of, is_simple, is_simple_and_free, subcommand_name_of, subcommand_of, subcommand_rows, subcommand_rows_of, argument_words, entered, label_of, names_of, rows_at, meaning, clap_on_literals, par2_app, shape_of, start_app, digit_value, and_parts, box_value, none-some, recursion_from_All, AllPass-from_list_all, rule_of, Arg, Found, first_value-rows, one_text-rows, raw_values-rows, answers_to, stop_after, ArgMatches, SubCommand, out-ArgMatches, out-SubCommand, found_one}
 
 -- the shape of a row of the table
 abbrev pub shape_for : Bor Text × Bor (List Rattle.par2_arguments.specs.declared.definition.Argument.Argument) → Shape

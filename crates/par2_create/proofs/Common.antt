@@ -3,16 +3,16 @@
 use Rattle.std.specs.Prelude.{if◌then◌else◌, slice_index_or}
 pub use Rattle.std.proofs.Common.{Bool, Bor, Global, List, None, Option, Some, Vec, [], ap, append-nil, append_assoc, ap₂, arith, below_more, cond, drop, eqb, false, get_or, inl, inr, length, length-append, map, mul-le-mul_right, nat_le, nat_lt, not, refl, replicate, rules, string_bytes, subst, suc, sym, take, tests, true, zero, zero-add, ℕ, ◌%◌, ◌&&◌, ◌*◌, ◌++◌, ◌+◌, ◌-◌, ◌/◌, ◌<◌, ◌^◌, ◌||◌, ◌∙◌, ◌∷◌, ◌≡◌, ◌≤◌}
 pub use Rattle.std.proofs.lemmas.Bool.{and_from, and_parts, cases_lt, eq-eqb, eqb-false, eqb-true, false_from_ne_true, false≢true, le-leb, le-ltb, leb-true, lt-ltb, ltb-false, ltb-true, ne_eqb, not-false, not-true, not_from_false, not_from_true, or_from, or_parts}
-pub use Rattle.std.proofs.lemmas.Grind.{div_ceil_times, flat_map-append}
+pub use Rattle.std.proofs.lemmas.Grind.{div_ceil_times, flat_map-append, common_steps}
 pub use Rattle.std.proofs.lemmas.Iterator.{YieldsList-from_slice, items_from_collect}
-pub use Rattle.std.proofs.lemmas.List.{drop_all, drop_at, drop_more, ext_get_or, flat_map_more, get_or-append_right, get_or-drop, get_or-map, get_or-take, get_or_append_left, get_or_default, length-drop, length-map, length-replicate, length-take-le, map-append, map_more, nil_from_length, take-append-drop, take_all, take_at, take_more, with_items_is}
+pub use Rattle.std.proofs.lemmas.List.{drop_all, drop_at, drop_more, ext_get_or, flat_map_more, get_or-append_right, get_or-drop, get_or-map, get_or-take, get_or_append_left, get_or_default, length-drop, length-map, length-replicate, length-take-le, map-append, map_more, nil_from_length, take-append-drop, take_all, take_at, take_more, with_items_is, take_min, drop-drop, drop-take, length-take}
 pub use Rattle.std.proofs.lemmas.List.Folds.{flat_map-map, length-flat_map-take, list_any-append}
 pub use Rattle.std.proofs.lemmas.List.FromFn.{get_or-enumerate_from, get_or-map-range_with_len, get_or-range_with_len, length-enumerate_from, length-map-range_with_len, length-range_with_len, map-range_with_len_more}
 pub use Rattle.std.proofs.lemmas.List.Sums.{position_or_len_is, sum-map, sum_by-cons, sum_by_more_le}
 pub use Rattle.std.proofs.lemmas.Result.{IfOk-weaker, err_from_is_err_and, on_ok_weaker}
 pub use Rattle.std.proofs.lemmas.Simd.{map-map}
-pub use Rattle.std.specs.List.{AllByRecursion, IsDistinct, cons_option, enumerate_from, list_any, position_or_len, range_with_len, starts_with}
-pub use Rattle.std.specs.Prelude.{IfSome, codes, filter, filter_map, flat_map, is_some, nat_eq, option_map, position, sum_by, ◌==◌}
+pub use Rattle.std.specs.List.{AllByRecursion, IsDistinct, cons_option, enumerate_from, list_any, position_or_len, range_with_len, starts_with, All}
+pub use Rattle.std.specs.Prelude.{IfSome, codes, filter, filter_map, flat_map, is_some, nat_eq, option_map, position, sum_by, ◌==◌, IsPermutation, unwrap_or, sum}
 pub use Rattle.std.specs.Str.{bytes_eq, is_utf8}
 pub use Rattle.std.specs.Vec.Iter.{into_iter_items, into_iter_len}
 unfoldable pub use Rattle.par2_create.specs.Outputs.{files_fault, ids_fault, inputs_fault}
@@ -22,7 +22,7 @@ pub use Rattle.par2_create.specs.declared.inputs.Volume.{Volume}
 pub use Rattle.par2_create.specs.declared.records.Parts.{Parts}
 pub use Rattle.par2_packets.proofs.Pieces.{head_of, length-head, length-undigested, part_from, undigested_is, drop_behind, length-pieces, piece_at}
 pub use Rattle.par2_packets.specs.Recoveries.{ArePieces, digested, undigested}
-pub use Rattle.par2_packets.specs.PacketViews.{file_record_of}
+pub use Rattle.par2_packets.specs.PacketViews.{file_record_of, record_id_number}
 pub use Rattle.par2_packets.specs.declared.record.FileRecord.{FileRecord}
 pub use Rattle.par2_create.specs.Records.{AreRecords, input_file}
 pub use Rattle.par2_slices.specs.Matching.{buffers_of}
@@ -39,6 +39,24 @@ pub use Rattle.par2_spec.specs.declared.Fault.{Fault}
 pub use Rattle.par2_spec.specs.declared.Fault.TheVariants.{BadBase, BadCount, BadName, BadSliceSize, DuplicateId, DuplicateInput, EmptyFile, NameTooLong, NoInput, NoSuchFile, TooManySlices}
 pub use Rattle.par2_spec.specs.declared.Kind.TheVariants.{Creator, FileDesc, Ifsc, Main, Recovery}
 pub use Rattle.par2_transform.specs.declared.outputs.Place.{Place}
+pub use Rattle.std.specs.List.Sorted.{IsStrictlyIncreasing}
+pub use Rattle.md5.specs.Md5.{md5}
+pub use Rattle.std.specs.Int.{w128, from_le_bytes}
+pub use Rattle.par2_spec.proofs.OrderLaws.{rising_records, files_of_ordered, moved-ordered}
+pub use Rattle.std.proofs.lemmas.List.Sorted.{length_permutation, sum_by-IsPermutation, IsPermutation-map}
+pub use Rattle.std.specs.Bool.{then_some}
+pub use Rattle.par2_spec.proofs.EarlyLaws.{refused_early}
+pub use Rattle.par2_spec.proofs.FolderLaws.{create_leads}
+pub use Rattle.par2_spec.proofs.MovesLaws.{no_file, no_names_file}
+pub use Rattle.par2_spec.proofs.SliceLaws.{files_push}
+pub use Rattle.std.proofs.lemmas.List.Elements.{filter-append, filter_passes, All-map, All-weaker}
+pub use Rattle.std.proofs.lemmas.List.Concat.{get_or-flat_map}
+pub use Rattle.std.proofs.lemmas.Nat.{div-add-mod'}
+pub use Rattle.std.proofs.Math.Nat.{mod-lt}
+pub use Rattle.par2_spec.proofs.AsideNames.{front_of_name, longer}
+pub use Rattle.par2_spec.proofs.WrittenSets.{recovery_length}
+pub use borrow.Rule.Slice.PartMut.{put_mid}
+pub use Rattle.par2_transform.specs.Rows.{place_at, AreApart, HasByte, LieWithin}
 
 -- volume i, if it has a recovery slice
 abbrev pub volume_if : List ℕ → ℕ → ℕ → ℕ → List Volume

@@ -1,12 +1,6 @@
 -- The records of files, and their File IDs.
-use Rattle.par2_create.proofs.Common.{◌≡◌, ℕ, List, length, map, sym, ap, ◌∙◌, subst, Some, None, ◌==◌, IsDistinct, bytes_eq, not_from_true, not_from_false, eqb-true, eq-eqb, false_from_ne_true, length-map, map-map, fault_where, distinct, File, id_of, record_of, DuplicateId, AreDistinct, distinct_from_std, std_from_distinct, distinct_same, distinct_by_length, file_record_of, ids_fault, AreRecords, ◌+◌, ◌<◌, refl, ap₂, [], ◌∷◌, ◌++◌, get_or, take, string_bytes, get_or-map, map_more, map-append, Folder, Input, in_id_order, input_file, files_of, FileRecord}
-use Rattle.std.specs.Prelude.{IsPermutation}
-use Rattle.std.specs.List.Sorted.{IsStrictlyIncreasing}
-use Rattle.md5.specs.Md5.{md5}
-use Rattle.par2_packets.specs.PacketViews.{record_id_number}
-use Rattle.std.specs.Int.{w128, from_le_bytes}
+use Rattle.par2_create.proofs.Common.{◌≡◌, ℕ, List, length, map, sym, ap, ◌∙◌, subst, Some, None, ◌==◌, IsDistinct, bytes_eq, not_from_true, not_from_false, eqb-true, eq-eqb, false_from_ne_true, length-map, map-map, fault_where, distinct, File, id_of, record_of, DuplicateId, AreDistinct, distinct_from_std, std_from_distinct, distinct_same, distinct_by_length, file_record_of, ids_fault, AreRecords, ◌+◌, ◌<◌, refl, ap₂, [], ◌∷◌, ◌++◌, get_or, take, string_bytes, get_or-map, map_more, map-append, Folder, Input, in_id_order, input_file, files_of, FileRecord, IsPermutation, IsStrictlyIncreasing, md5, record_id_number, w128, from_le_bytes, rising_records, files_of_ordered}
 use Rattle.par2_spec.specs.Volumes as volumes
-use Rattle.par2_spec.proofs.OrderLaws.{rising_records, files_of_ordered}
 
 -- the identifiers in the records are those of the files
 pub ids_are : (s : ℕ) (files : List File) (records : List FileRecord) → AreRecords s files records → map (λ (file : FileRecord). file.id) records ≡ map id_of files

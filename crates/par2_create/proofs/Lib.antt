@@ -4,3 +4,4 @@ mod IndexBytes
 mod Refusals
 mod VolumeLaws
 mod Steps
+mod Names

@@ -1,9 +1,5 @@
 -- What the absence of each cause of a refusal says of the arguments and the inputs.
-use Rattle.par2_create.proofs.Common.{◌≡◌, zero, suc, ℕ, ◌+◌, ◌≤◌, List, [], ◌∷◌, length, refl, sym, ap₂, ◌∙◌, false, arith, length-append, ◌*◌, ◌==◌, sum_by, AllByRecursion, eqb-false, div_ceil_times, sum_by-cons, length-map-range_with_len, slice_count, slice_at, slices, File, all_slices, ◌%◌, ◌^◌, true, not, ◌&&◌, nat_lt, nat_le, None, and_parts, leb-true, ltb-false, not-false, fault_where, fault_at, is_name, is_par_name, Folder, has, in_id_order, is_slice_size, CreateArgs, files_of, are_counts, bad_name, head_fault, BadSliceSize, BadCount, BadBase, NoInput, NoSuchFile, EmptyFile, TooManySlices, where_none, all_none, at_none, size_parts, duplicate_input, files_fault, ids_fault, inputs_fault, ap, Bool, Option, list_any, first_fault, create_refusal, refusal, early_refusal, long_name, existing, map-map, option_map, position-map, bytes_of, is_some, Some, volume_numbers, Create, outputs_of, any-map, Fault, volume_at, output_names, names_of_outputs, ◌<◌, get_or, take, cond, position, position_or_len, enumerate_from, lt-ltb, le-ltb, position_or_len_is, get_or-enumerate_from, length-enumerate_from, is_among, map, sum-map, Input, input_file}
-use Rattle.std.proofs.lemmas.List.Sorted.{length_permutation, sum_by-IsPermutation}
-use Rattle.std.specs.Prelude.{unwrap_or, sum}
-use Rattle.std.specs.Bool.{then_some}
-use Rattle.par2_spec.proofs.OrderLaws.{moved-ordered}
+use Rattle.par2_create.proofs.Common.{◌≡◌, zero, suc, ℕ, ◌+◌, ◌≤◌, List, [], ◌∷◌, length, refl, sym, ap₂, ◌∙◌, false, arith, length-append, ◌*◌, ◌==◌, sum_by, AllByRecursion, eqb-false, div_ceil_times, sum_by-cons, length-map-range_with_len, slice_count, slice_at, slices, File, all_slices, ◌%◌, ◌^◌, true, not, ◌&&◌, nat_lt, nat_le, None, and_parts, leb-true, ltb-false, not-false, fault_where, fault_at, is_name, is_par_name, Folder, has, in_id_order, is_slice_size, CreateArgs, files_of, are_counts, bad_name, head_fault, BadSliceSize, BadCount, BadBase, NoInput, NoSuchFile, EmptyFile, TooManySlices, where_none, all_none, at_none, size_parts, duplicate_input, files_fault, ids_fault, inputs_fault, ap, Bool, Option, list_any, first_fault, create_refusal, refusal, early_refusal, long_name, existing, map-map, option_map, position-map, bytes_of, is_some, Some, volume_numbers, Create, outputs_of, any-map, Fault, volume_at, output_names, names_of_outputs, ◌<◌, get_or, take, cond, position, position_or_len, enumerate_from, lt-ltb, le-ltb, position_or_len_is, get_or-enumerate_from, length-enumerate_from, is_among, map, sum-map, Input, input_file, length_permutation, sum_by-IsPermutation, unwrap_or, sum, then_some, moved-ordered}
 
 -- the number of slices of the files
 pub slices_counted : (s : ℕ) (files : List File) → length (all_slices s files) ≡ sum_by (λ file. slice_count s (length file.1)) files

@@ -1,15 +1,9 @@
 -- What `auto` is given, by module.
-use Rattle.par2_create.proofs.Common.{answered_so, append-nil, append_assoc, below_more, create_applies, err_from_is_err_and, false_from_ne_true, false≢true, get_or-enumerate_from, get_or-map, get_or_default, holds_more, le-ltb, length-enumerate_from, length-map, length-replicate, lt-ltb, map-append, map-range_with_len_more, map_more, never_found, nil_from_length, not-false, not-true, on_ok_weaker, position-map, refused_by, sum_by_more_le, take_all, take_more, with_items_is, zero-add}
+use Rattle.par2_create.proofs.Common.{answered_so, append-nil, append_assoc, below_more, create_applies, err_from_is_err_and, false_from_ne_true, false≢true, get_or-enumerate_from, get_or-map, get_or_default, holds_more, le-ltb, length-enumerate_from, length-map, length-replicate, lt-ltb, map-append, map-range_with_len_more, map_more, never_found, nil_from_length, not-false, not-true, on_ok_weaker, position-map, refused_by, sum_by_more_le, take_all, take_more, with_items_is, zero-add, refused_early, create_leads, IsPermutation-map, take_min, no_file, no_names_file, files_push}
 use Rattle.par2_create.proofs.FileRecords.{digest_at, in_order, record_push}
 use Rattle.par2_create.proofs.VolumeLaws.{long_without_base, none_long, one_is_long, volumes_below, volumes_more, length-places, length-volume, packet_ends, places_apart, places_blank, places_within, volumes_written}
 use Rattle.par2_create.proofs.Refusals.{head_passed, early_by, again_found, again_nowhere}
-use Rattle.par2_spec.proofs.EarlyLaws.{refused_early}
-use Rattle.par2_spec.proofs.FolderLaws.{create_leads}
 use Rattle.par2_create.proofs.IndexBytes.{index_bytes, appended_all, appended_next, slices_push, some_left, taken}
-use Rattle.std.proofs.lemmas.List.Sorted.{IsPermutation-map}
-use Rattle.std.proofs.lemmas.List.{take_min}
-use Rattle.par2_spec.proofs.MovesLaws.{no_file, no_names_file}
-use Rattle.par2_spec.proofs.SliceLaws.{files_push}
 
 pub ruleset create = (append-nil, nil_from_length, position-map, err_from_is_err_and, create_applies, answered_so, never_found, refused_early, create_leads, head_passed, long_without_base, early_by)
 

@@ -1,18 +1,6 @@
 -- The string of a volume's name is a name if it has at most 255 bytes.
-use Rattle.par2_create.proofs.Common.{nil_from_length, ◌≡◌, ℕ, ◌+◌, ◌-◌, ◌<◌, ◌≤◌, List, [], ◌∷◌, ◌++◌, length, take, drop, refl, sym, ap, ◌∙◌, subst, Bool, true, false, eqb, arith, length-append, length-take-le, take-append-drop, codes, nat_eq, ◌==◌, list_any, starts_with, is_utf8, and_parts, and_from, or_from, or_parts, false_from_ne_true, not_from_false, ne_eqb, le-leb, not-true, list_any-append, is_name, five_digits, stem, volume_name, clash, tests_of, name_of, append_assoc, lt-ltb, ltb-true, le-ltb, leb-true, where_none, CreateArgs, volume_size, volume_numbers, volumes_before, output_names, volume_at, volume_if, volumes_of, volume_names, map, cond, ◌||◌, Some, None, filter, range_with_len, map-append, fault_where, NameTooLong, any-map, range-append, map-cond, name_is_short, Volume, long_name, head_fault, nat_lt, ◌*◌, ap₂, append-nil, flat_map, take_at, drop_at, take_all, drop_all, length-drop, flat_map-map, packet, packet_of, recovery_bytes, Recovery, ArePieces, undigested, digested, length-pieces, length-undigested, Parts, inputs_of, recovery_packets, slice_of, ext_get_or, get_or-take, get_or-drop, get_or_append_left, get_or-append_right, length-map, get_or-map, length-replicate, inl, inr, zero, suc, ◌/◌, ◌%◌, get_or, zero-add, mul-le-mul_right, replicate, enumerate_from, cases_lt, length-map-range_with_len, get_or-map-range_with_len, length-range_with_len, get_or-range_with_len, length-enumerate_from, get_or-enumerate_from, padded, list_at, piece_at, drop_behind, head_of, length-head, undigested_is, part_from, Place, output_at, AreWritten, AreZeros, length_with, nth_volume, place_in, places_in, places_of, volume_with, volume_exponents, length-flat_map-take, flat_map-append, map-map, Folder, File, Change, index_packets, main_id, record_of, in_id_order, all_slices, volumes, files_of, create_changes, put_change}
-use Rattle.std.specs.List.{All}
-use Rattle.std.proofs.lemmas.Grind.{common_steps}
-use Rattle.std.proofs.lemmas.List.{drop-drop, drop-take, length-take}
-use Rattle.std.proofs.lemmas.List.Elements.{filter-append, filter_passes, All-map, All-weaker}
-use Rattle.std.proofs.lemmas.List.Concat.{get_or-flat_map}
-use Rattle.std.proofs.lemmas.Nat.{div-add-mod'}
-use Rattle.std.proofs.Math.Nat.{mod-lt}
-use Rattle.par2_spec.proofs.AsideNames.{front_of_name, longer}
+use Rattle.par2_create.proofs.Common.{nil_from_length, ◌≡◌, ℕ, ◌+◌, ◌-◌, ◌<◌, ◌≤◌, List, [], ◌∷◌, ◌++◌, length, take, drop, refl, sym, ap, ◌∙◌, subst, Bool, true, false, eqb, arith, length-append, length-take-le, take-append-drop, codes, nat_eq, ◌==◌, list_any, starts_with, is_utf8, and_parts, and_from, or_from, or_parts, false_from_ne_true, not_from_false, ne_eqb, le-leb, not-true, list_any-append, is_name, five_digits, stem, volume_name, clash, tests_of, name_of, append_assoc, lt-ltb, ltb-true, le-ltb, leb-true, where_none, CreateArgs, volume_size, volume_numbers, volumes_before, output_names, volume_at, volume_if, volumes_of, volume_names, map, cond, ◌||◌, Some, None, filter, range_with_len, map-append, fault_where, NameTooLong, any-map, range-append, map-cond, name_is_short, Volume, long_name, head_fault, nat_lt, ◌*◌, ap₂, append-nil, flat_map, take_at, drop_at, take_all, drop_all, length-drop, flat_map-map, packet, packet_of, recovery_bytes, Recovery, ArePieces, undigested, digested, length-pieces, length-undigested, Parts, inputs_of, recovery_packets, slice_of, ext_get_or, get_or-take, get_or-drop, get_or_append_left, get_or-append_right, length-map, get_or-map, length-replicate, inl, inr, zero, suc, ◌/◌, ◌%◌, get_or, zero-add, mul-le-mul_right, replicate, enumerate_from, cases_lt, length-map-range_with_len, get_or-map-range_with_len, length-range_with_len, get_or-range_with_len, length-enumerate_from, get_or-enumerate_from, padded, list_at, piece_at, drop_behind, head_of, length-head, undigested_is, part_from, Place, output_at, AreWritten, AreZeros, length_with, nth_volume, place_in, places_in, places_of, volume_with, volume_exponents, length-flat_map-take, flat_map-append, map-map, Folder, File, Change, index_packets, main_id, record_of, in_id_order, all_slices, volumes, files_of, create_changes, put_change, All, common_steps, drop-drop, drop-take, length-take, filter-append, filter_passes, All-map, All-weaker, get_or-flat_map, div-add-mod', mod-lt, front_of_name, longer, recovery_length, put_mid, place_at, AreApart, HasByte, LieWithin, recovery}
 use Rattle.par2_create.proofs.Refusals.{head_passed}
-use Rattle.par2_spec.proofs.WrittenSets.{recovery_length}
-use borrow.Rule.Slice.PartMut.{put_mid}
-use Rattle.par2_transform.specs.Rows.{place_at, AreApart, HasByte, LieWithin}
-use Rattle.par2_spec.specs.Prelude.{recovery}
 
 -- the part after the stem
 abbrev rest_of : ℕ → ℕ → List ℕ

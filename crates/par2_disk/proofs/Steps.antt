@@ -1,20 +1,5 @@
 -- A write that may be refused, as a folder is filled.
-use Rattle.par2_disk.proofs.Common.{◌≡◌, ◌+◌, ◌<◌, ◌≤◌, ℕ, List, Some, Result, IfErr, OnOk, OnErr, nat_lt, arith, FolderState, Write, state_after, change_refusal, effect, ◌∙◌, zero, suc, ◌⊎◌, inl, inr, ap, refl, sym, [], ◌∷◌, OnlyReads}
-use Rattle.std.proofs.lemmas.Bool.Decides.{nat_tests}
-use Rattle.std.specs.Prelude.{false}
-use Rattle.std.proofs.lemmas.List.Elements.{All-more, All-nil, All-weaker}
-use Rattle.std.proofs.lemmas.Nat.{and_assoc, and_comm}
-use Rattle.std.specs.Int.Bits.{bit_and, and_self, and_zero_r}
-use Rattle.par2_spec.specs.Prelude.{has}
-use Rattle.par2_spec.specs.declared.ChangeFault.{ChangeFault}
-use Rattle.par2_disk.specs.Runtime.{GivesNoMore, IsWithinThoseNamed}
-use seplogic.Ra.Ura.{Ura}
-use mir.Val.{Val, vstruct, vnil}
-use types.Logic.{Logic}
-use types.Kit.{Goal, Step, step, Item, ‵, ◌$◌, fjoin, fpack, feq_i}
-use denote.RattleType.{RattleType, Valss}
-use denote.Steps.{nothing}
-use denote.Struct.Struct.{Struct, within}
+use Rattle.par2_disk.proofs.Common.{◌≡◌, ◌+◌, ◌<◌, ◌≤◌, ℕ, List, Some, Result, IfErr, OnOk, OnErr, nat_lt, arith, FolderState, Write, state_after, change_refusal, effect, ◌∙◌, zero, suc, ◌⊎◌, inl, inr, ap, refl, sym, [], ◌∷◌, OnlyReads, nat_tests, false, All-more, All-nil, All-weaker, and_assoc, and_comm, bit_and, and_self, and_zero_r, has, ChangeFault, GivesNoMore, IsWithinThoseNamed, Ura, Val, vstruct, vnil, Logic, Goal, Step, step, Item, ‵, ◌$◌, fjoin, fpack, feq_i, RattleType, Valss, nothing, Struct, within}
 use Rattle.par2_disk.specs.declared.store.Store.{Ghosts as StoreOf}
 use Rattle.std.specs.FinMap as map_of
 

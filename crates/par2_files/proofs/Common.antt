@@ -12,7 +12,7 @@ pub use Rattle.std.proofs.lemmas.Result.{IfOk-weaker}
 pub use Rattle.std.specs.Cmp.Lexicographic.{nat_list_cmp_total}
 pub use Rattle.std.specs.FinMap.{IsAntisymmetric, entries, entries-from_sorted, entries-insert, entries_sorted, find, get-empty, get-from_sorted, get-insert, get-remove, get-retain_keys, is_sorted, nat_cmp-IsAntisymmetric, put, same_entries_map, same_map, slice_cmp-IsAntisymmetric}
 pub use Rattle.std.specs.FinMap.Entries.{find-where_key, is_sorted-where_key, where_key}
-pub use Rattle.std.specs.List.{AllByRecursion, insert, list_any, remove, starts_with}
+pub use Rattle.std.specs.List.{AllByRecursion, insert, list_any, remove, starts_with, All}
 pub use Rattle.std.specs.List.Sorted.{IsBinarySearchResult, IsNonDecreasingBy, IsSearchInRange}
 pub use Rattle.std.specs.Ordering.{eq_by_cmp, is_eq, is_gt, is_lt, ord_min, ordering_index, ordering_reverse}
 pub use Rattle.std.specs.declared.cmp.Ordering.{Ordering}
@@ -27,6 +27,13 @@ pub use Rattle.par2_files.specs.Folders.{AreFilesOf, AreFolderFiles, IsFile, IsF
 pub use Rattle.par2_files.specs.declared.snapshot.Split.{Split}
 pub use Rattle.par2_files.specs.declared.snapshot.Split.TheVariants.{At, Beginning, End}
 pub use Rattle.par2_spec.proofs.FolderLaws.{taken_are_applicable, takes_first, takes_rest}
-pub use Rattle.par2_spec.proofs.ListsLaws.{by_true, cond-not, is_true}
+pub use Rattle.par2_spec.proofs.ListsLaws.{by_true, cond-not, is_true, map-reverse}
 pub use Rattle.par2_spec.specs.Prelude.{Change, FolderState, Remove, Rename, Replace, Write, inverse, is_applicable, state_after, File, Folder, IsFolder, behind_length, bytes_of, has, names}
-unfoldable pub use Rattle.par2_spec.specs.Prelude.{are_applicable, change_refusal, effect, folders_after, state_after_all, takes_all, way_back, fingerprint}
+unfoldable pub use Rattle.par2_spec.specs.Prelude.{are_applicable, change_refusal, effect, folders_after, state_after_all, takes_all, way_back, fingerprint, is_name}
+pub use Rattle.std.specs.Prelude.{reverse}
+pub use Rattle.std.specs.Str.{bytes_eq}
+pub use Rattle.std.proofs.lemmas.Str.{is_utf8-from_IsUtf8}
+pub use Rattle.std.specs.Cmp.{tied_itself, eq_by_cmp_equiv, upto}
+pub use Rattle.std.proofs.lemmas.List.Sorted.{searchable_from_sorted}
+pub use Rattle.par2_files.specs.declared.snapshot.Absorbing.{Absorbing}
+pub use Rattle.par2_files.specs.declared.snapshot.Snapshot.{Snapshot}

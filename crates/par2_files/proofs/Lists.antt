@@ -1,10 +1,5 @@
 -- Changes in order, one by one.
-use Rattle.par2_files.proofs.Common.{◌≡◌, ℕ, suc, ◌+◌, ◌<◌, ◌≤◌, List, [], ◌∷◌, ◌++◌, length, map, take, drop, get_or, set, None, IsTrue, refl, sym, ap, subst, ◌∙◌, append_assoc, append-nil, add-one, drop-cons, arith, take-suc-set, reverse-append, map-append, drop-set-lt, take_all, drop_all, Folder, FolderState, change_refusal, effect, inverse, state_after, takes_all, state_after_all, way_back, Change, takes_first, takes_rest, common_steps, take-map, drop-map, length-map, Bool, true, not, ◌&&◌, ◌||◌, ◌==◌, nat_le, nat_eq, codes, IsUtf8, list_any, starts_with}
-use Rattle.std.specs.Prelude.{reverse}
-use Rattle.std.specs.Str.{bytes_eq}
-use Rattle.std.proofs.lemmas.Str.{is_utf8-from_IsUtf8}
-use Rattle.par2_spec.proofs.ListsLaws.{map-reverse}
-use Rattle.par2_spec.specs.Prelude.{is_name}
+use Rattle.par2_files.proofs.Common.{◌≡◌, ℕ, suc, ◌+◌, ◌<◌, ◌≤◌, List, [], ◌∷◌, ◌++◌, length, map, take, drop, get_or, set, None, IsTrue, refl, sym, ap, subst, ◌∙◌, append_assoc, append-nil, add-one, drop-cons, arith, take-suc-set, reverse-append, map-append, drop-set-lt, take_all, drop_all, Folder, FolderState, change_refusal, effect, inverse, state_after, takes_all, state_after_all, way_back, Change, takes_first, takes_rest, common_steps, take-map, drop-map, length-map, Bool, true, not, ◌&&◌, ◌||◌, ◌==◌, nat_le, nat_eq, codes, IsUtf8, list_any, starts_with, reverse, bytes_eq, is_utf8-from_IsUtf8, map-reverse, is_name}
 
 -- the inverses in the order of the changes
 abbrev pub inverses : Folder → List Change → List Change

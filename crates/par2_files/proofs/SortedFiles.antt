@@ -1,8 +1,5 @@
 -- Files sorted by their names: what a search finds in them, and what an edit at a position does to their folder.
-use Rattle.par2_files.proofs.Common.{AreFilesOf, IsSearched, ◌≡◌, ℕ, zero, suc, ◌+◌, ◌<◌, ◌≤◌, Bool, true, false, cond, not, List, [], ◌∷◌, ◌++◌, length, take, drop, get_or, set, is_some, Option, Some, None, Result, Ok, Err, IsTrue, T, refl, sym, ap, subst, ◌∙◌, arith, insert, remove, AllByRecursion, IsSearchInRange, IsBinarySearchResult, IsNonDecreasingBy, ordering_index, ordering_reverse, eq_by_cmp, is_lt, is_eq, is_gt, Ordering, Less, Equal, Greater, and_parts, nat_list_cmp_total, entries, is_sorted, find, put, IsAntisymmetric, slice_cmp-IsAntisymmetric, nat_cmp-IsAntisymmetric, same_entries_map, same_map, entries_sorted, entries-from_sorted, get-from_sorted, entries-insert, get-remove, get-empty, where_key, find-where_key, is_sorted-where_key, length-map, get_or-map, length-take-le, get_or-take, take_all, drop_all, take_more, get_or_default, All-from_recursion, recursion_from_All, All-append, All-cons, All-drop, All-set, All-take, File, Folder, IsFolder, has, names, name_cmp, IsSortedByName, folder_of, file_at, IsFileAt, IsGapFor, IsFile, AreFolderFiles, by_true, is_true, cond-not, common_steps, ord_min, get-retain_keys, get-insert, cases_lt, behind_length, bytes_of, is_below, fingerprint_input, first_name, IsFront, effect, Change, Write, Replace, Rename, Remove, flat_map-append, ◌-◌, map, map-append, take-map, drop-map, take-take, drop-take, take-append-drop, IsFurther, is_before, bytes_before, touches, Split, Beginning, At, End, file_of, map-set, Bor, false≢true}
-use Rattle.std.specs.Cmp.{tied_itself, eq_by_cmp_equiv, upto}
-use Rattle.std.specs.List.{All}
-use Rattle.std.proofs.lemmas.List.Sorted.{searchable_from_sorted}
+use Rattle.par2_files.proofs.Common.{AreFilesOf, IsSearched, ◌≡◌, ℕ, zero, suc, ◌+◌, ◌<◌, ◌≤◌, Bool, true, false, cond, not, List, [], ◌∷◌, ◌++◌, length, take, drop, get_or, set, is_some, Option, Some, None, Result, Ok, Err, IsTrue, T, refl, sym, ap, subst, ◌∙◌, arith, insert, remove, AllByRecursion, IsSearchInRange, IsBinarySearchResult, IsNonDecreasingBy, ordering_index, ordering_reverse, eq_by_cmp, is_lt, is_eq, is_gt, Ordering, Less, Equal, Greater, and_parts, nat_list_cmp_total, entries, is_sorted, find, put, IsAntisymmetric, slice_cmp-IsAntisymmetric, nat_cmp-IsAntisymmetric, same_entries_map, same_map, entries_sorted, entries-from_sorted, get-from_sorted, entries-insert, get-remove, get-empty, where_key, find-where_key, is_sorted-where_key, length-map, get_or-map, length-take-le, get_or-take, take_all, drop_all, take_more, get_or_default, All-from_recursion, recursion_from_All, All-append, All-cons, All-drop, All-set, All-take, File, Folder, IsFolder, has, names, name_cmp, IsSortedByName, folder_of, file_at, IsFileAt, IsGapFor, IsFile, AreFolderFiles, by_true, is_true, cond-not, common_steps, ord_min, get-retain_keys, get-insert, cases_lt, behind_length, bytes_of, is_below, fingerprint_input, first_name, IsFront, effect, Change, Write, Replace, Rename, Remove, flat_map-append, ◌-◌, map, map-append, take-map, drop-map, take-take, drop-take, take-append-drop, IsFurther, is_before, bytes_before, touches, Split, Beginning, At, End, file_of, map-set, Bor, false≢true, tied_itself, eq_by_cmp_equiv, upto, All, searchable_from_sorted}
 use Rattle.std.specs.FinMap as map_of
 use Rattle.par2_spec.specs.Changes as defined
 

@@ -1,8 +1,6 @@
 -- States of groups of equal folders, from one split to the next along changes.
-use Rattle.par2_files.proofs.Common.{◌≡◌, ℕ, suc, ◌+◌, ◌<◌, ◌≤◌, Bool, cond, IsTrue, List, [], ◌∷◌, ◌++◌, Bor, length, map, take, drop, get_or, refl, sym, ap, subst, ◌∙◌, append_assoc, append-nil, add-one, drop-cons, arith, drop_all, map-append, take_more, and_parts, md5, HasAbsorbed, buffers_of, Midstate, Folder, fingerprint, effect, is_applicable, are_applicable, folders_after, AreFolderFiles, change_of, group_buffers, bytes_before, touches, later_buffers, AreTo, HaveAbsorbed, files_in, folder_in, Split, Beginning, End, common_steps, ◌⊎◌, false, ◌-◌, false≢true, message_of, AbsorbsTo, Pending, ReachEach, bytes_where, is_below, comes_before, AreCheckpointsOf}
+use Rattle.par2_files.proofs.Common.{◌≡◌, ℕ, suc, ◌+◌, ◌<◌, ◌≤◌, Bool, cond, IsTrue, List, [], ◌∷◌, ◌++◌, Bor, length, map, take, drop, get_or, refl, sym, ap, subst, ◌∙◌, append_assoc, append-nil, add-one, drop-cons, arith, drop_all, map-append, take_more, and_parts, md5, HasAbsorbed, buffers_of, Midstate, Folder, fingerprint, effect, is_applicable, are_applicable, folders_after, AreFolderFiles, change_of, group_buffers, bytes_before, touches, later_buffers, AreTo, HaveAbsorbed, files_in, folder_in, Split, Beginning, End, common_steps, ◌⊎◌, false, ◌-◌, false≢true, message_of, AbsorbsTo, Pending, ReachEach, bytes_where, is_below, comes_before, AreCheckpointsOf, Absorbing, Snapshot}
 use Rattle.par2_files.specs.declared.change.Change.{Change}
-use Rattle.par2_files.specs.declared.snapshot.Absorbing.{Absorbing}
-use Rattle.par2_files.specs.declared.snapshot.Snapshot.{Snapshot}
 use Rattle.par2_files.proofs.SortedFiles.{no_bytes, bytes_on, whole_bytes, taken_on}
 use Rattle.par2_spec.specs.Changes as defined
 

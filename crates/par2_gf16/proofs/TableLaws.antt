@@ -1,9 +1,5 @@
 -- The tables, and the calls that use them.
-use Rattle.par2_gf16.proofs.Common.{ℕ, zero, suc, ◌+◌, ◌-◌, ◌*◌, ◌<◌, ◌≡◌, inl, inr, refl, sym, ap, ap₂, ◌∙◌, subst, arith, List, [], ◌∷◌, ◌++◌, length, get_or, set, length-append, length-set, add-one, map, cond, true, false, ◌/◌, ◌%◌, append-nil, cases_eq, get_or-set_same, get_or-set_other, get_or_append_left, map-append, get_or-map, length-map, mul, is_coprime, pow, constant, constant_powers, PowersBelow, LogsBelow, AreTables, FirstRound, SecondRound, constants_below, power-lt, power-add, power-65535, power-injective, logarithm, one_inverse, zero-product, product-one, power-mul, one-power, IsInverse, range_with_len, filter, by_either}
-use Rattle.std.proofs.Math.Seq.{get_or-append_seam}
-use Rattle.par2_spec.proofs.ListsLaws.{range-append}
-use Rattle.par2_spec.proofs.FieldLaws.{length-constant_powers}
-use Rattle.std.proofs.lemmas.List.Elements.{filter-append}
+use Rattle.par2_gf16.proofs.Common.{ℕ, zero, suc, ◌+◌, ◌-◌, ◌*◌, ◌<◌, ◌≡◌, inl, inr, refl, sym, ap, ap₂, ◌∙◌, subst, arith, List, [], ◌∷◌, ◌++◌, length, get_or, set, length-append, length-set, add-one, map, cond, true, false, ◌/◌, ◌%◌, append-nil, cases_eq, get_or-set_same, get_or-set_other, get_or_append_left, map-append, get_or-map, length-map, mul, is_coprime, pow, constant, constant_powers, PowersBelow, LogsBelow, AreTables, FirstRound, SecondRound, constants_below, power-lt, power-add, power-65535, power-injective, logarithm, one_inverse, zero-product, product-one, power-mul, one-power, IsInverse, range_with_len, filter, by_either, get_or-append_seam, range-append, length-constant_powers, filter-append}
 
 next_power : (i : ℕ) → mul 2 (pow 2 i) ≡ pow 2 (i + 1)
 unfolding pow

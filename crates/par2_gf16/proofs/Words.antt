@@ -1,15 +1,5 @@
 -- Words in bytes and in lanes: their sums, their vectors, and their products nibble by nibble.
-use Rattle.par2_gf16.proofs.Common.{ℕ, ◌+◌, ◌*◌, ◌/◌, ◌%◌, ◌^◌, ◌<◌, ◌≡◌, sym, ap, ap₂, ◌∙◌, subst, arith, List, length, get_or, xor_block, word, AddsEach, zero, suc, refl, [], ◌∷◌, map, replicate, Bool, true, false, cond, eqb, bit_and, zero-mul, one-mul, pow_pos, pow-suc, mul_comm, add-one, mod-lt, shr-shr, xor_comm, and_pow, eqb-true, eqb-false, map-id, zip2_of_maps, map-map, xor_shifted, mul, pow, LanesSoFar, bit_cases, tested, tested_at, product_linear_right, product-lt, product_comm, product_assoc, product-one, product-zero, power-lt, by_either, ◌-◌, ◌≤◌, ◌++◌, flat_map, ◌&&◌, inl, inr, w8, Fits, cases_lt, and_parts, and_mask, get_or-map, length-map, get_or_append_left, get_or-append_right, ext_get_or, Each1-get_or, Each1-from_get_or, below_from_Fits, length-chunk, get_or_wider, chunk-fits, zip2_splat, get_or-chunk, get_or-put_chunk_below, get_or-put_chunk_at, get_or-put_chunk_above, length-put_chunk, get_or-zip2, length-zip2, get_or-swz_l_below, length-swz_l, swz_l, SwzOk, SwzOk-from_below, range_with_len, bit_xor, IsTable, IsInterleaving, AddsLanes, in_lane, lane_of, word_in, word_of, take, drop, xor_zero_l, xor_zero_r, AddsTo, length-append, xor_shl}
-use Rattle.std.proofs.Math.Arith.{mod-mul}
-use Rattle.std.proofs.Math.Nat.{mod-eq_of_lt}
-use Rattle.std.specs.Int.{bit_at}
-use Rattle.std.proofs.lemmas.List.{get_or-take, get_or-drop, get_or_past, length-take-le}
-use Rattle.std.proofs.lemmas.List.FromFn.{get_or-map-range_with_len, length-map-range_with_len}
-use Rattle.std.proofs.lemmas.Bool.{ltb-true}
-use Rattle.std.proofs.Math.Dec.{ltb}
-use lib.Lanes.{zip2, sel_l, top, Each1, number_l, digits_l, chunk, put_chunk, pick_l}
-use Rattle.par2_gf16.specs.declared.vectors.WordVector.{WordVector}
-use Rattle.par2_spec.proofs.ListsLaws.{word_past}
+use Rattle.par2_gf16.proofs.Common.{ℕ, ◌+◌, ◌*◌, ◌/◌, ◌%◌, ◌^◌, ◌<◌, ◌≡◌, sym, ap, ap₂, ◌∙◌, subst, arith, List, length, get_or, xor_block, word, AddsEach, zero, suc, refl, [], ◌∷◌, map, replicate, Bool, true, false, cond, eqb, bit_and, zero-mul, one-mul, pow_pos, pow-suc, mul_comm, add-one, mod-lt, shr-shr, xor_comm, and_pow, eqb-true, eqb-false, map-id, zip2_of_maps, map-map, xor_shifted, mul, pow, LanesSoFar, bit_cases, tested, tested_at, product_linear_right, product-lt, product_comm, product_assoc, product-one, product-zero, power-lt, by_either, ◌-◌, ◌≤◌, ◌++◌, flat_map, ◌&&◌, inl, inr, w8, Fits, cases_lt, and_parts, and_mask, get_or-map, length-map, get_or_append_left, get_or-append_right, ext_get_or, Each1-get_or, Each1-from_get_or, below_from_Fits, length-chunk, get_or_wider, chunk-fits, zip2_splat, get_or-chunk, get_or-put_chunk_below, get_or-put_chunk_at, get_or-put_chunk_above, length-put_chunk, get_or-zip2, length-zip2, get_or-swz_l_below, length-swz_l, swz_l, SwzOk, SwzOk-from_below, range_with_len, bit_xor, IsTable, IsInterleaving, AddsLanes, in_lane, lane_of, word_in, word_of, take, drop, xor_zero_l, xor_zero_r, AddsTo, length-append, xor_shl, mod-mul, mod-eq_of_lt, bit_at, get_or-take, get_or-drop, get_or_past, length-take-le, get_or-map-range_with_len, length-map-range_with_len, ltb-true, ltb, zip2, sel_l, top, Each1, number_l, digits_l, chunk, put_chunk, pick_l, WordVector, word_past}
 
 pub word_xor : (r a p : ℕ) → r < 256 → a < 256 → p < 65536 → bit_xor r (p % 256) + 256 * bit_xor a (p / 256) ≡ bit_xor (r + 256 * a) p
 word_xor r a p hr ha hp =

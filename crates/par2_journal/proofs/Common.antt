@@ -13,15 +13,33 @@ pub use Rattle.std.specs.Str.{bytes_eq}
 pub use Rattle.std.specs.declared.alloc.Global.{Global}
 pub use Rattle.par2_files.specs.Folders.{change_of}
 pub use Rattle.par2_journal.specs.Sessions.{CanBe, Fits, HasPrintsOf, IsReady, action_for, after_commit, changes_by_kind, entries_for, kept_journal, moved, next_changes, next_of, opposite, prints_along, kept_session, CompletesHalfway, SpellsReady, SpellsWhere, halfway_with, AreNamesOf, IsSet, WentForth, names_in}
-pub use Rattle.par2_journal.specs.Commands.{AnswersOpening, AnswersWhere, IsReportedWhere, OpensAsIs, go_through, session_at}
+pub use Rattle.par2_journal.specs.Commands.{AnswersOpening, AnswersWhere, IsReportedWhere, OpensAsIs, go_through, session_at, AreUndone, UndosGiveBack, kept_history, MakesReady, Prepares, MayRefuse, nothing_for}
 pub use Rattle.par2_journal.specs.declared.opening.Next.{Next}
 pub use Rattle.par2_journal.specs.declared.commands.Kind.{Kind}
 pub use Rattle.par2_journal.specs.declared.commands.Kind.TheVariants.{Changing, Moving}
 pub use Rattle.par2_journal.specs.declared.commands.Prepared.{Prepared}
-pub use Rattle.par2_journal_format.specs.Journals.{changes_in, halfway_of, journal_from, journal_of}
+pub use Rattle.par2_journal_format.specs.Journals.{changes_in, halfway_of, journal_from, journal_of, IsRefusal, IsSealed, Begins}
 pub use Rattle.par2_repair.specs.Repairing.{HasItsMd5s, IsDraft}
 pub use Rattle.par2_repair.specs.declared.repair.Draft.{Draft}
-pub use Rattle.par2_spec.proofs.FolderLaws.{changes_back, gone, more_room_all, state_all_back, state_files, takes_applicable, takes_none, way_back_taken, written, accepted_next, done_can_walk, done_of_kept, grown_can_walk, leading_walks, next_taken, ok_no_err, redone_can_walk, redone_of_kept, refused_alike, run_leaves, same_ok, same_session, undone_can_walk, undone_of_kept, walked_is_valid}
-pub use Rattle.par2_spec.specs.Prelude.{Change, FolderState, Remove, Rename, Write, inverse, is_applicable, places_taken, state_after, state_after_all, Action, Command, Create, Do, Purge, Redo, Repair, Undo, Folder, bytes_of, fingerprint, has, Accepted, Ended, History, IsChanging, MayBeRefused, Passed, Refusal, Execution, HalfwayPart, Journal, Spells, halfway_where, is_valid, opened_by_part, LeadsToAfterRequested, after, early_refusal, refusal, CanWalk, KeptSession, OnlyGrew, Session, changes_unless, first_entry, others, session_of_kept, session_unless, session_with, Step, step_of, action_of, create_args_of}
-unfoldable pub use Rattle.par2_spec.specs.Prelude.{are_applicable, effect, effects, folders_after, takes_all, way_back, history_after, halfway_journal, leads, leads_through, settled_journal, changes_requested, history_of, kept_done, kept_redone, kept_undone, session_after, walks}
+pub use Rattle.par2_spec.proofs.FolderLaws.{changes_back, gone, more_room_all, state_all_back, state_files, takes_applicable, takes_none, way_back_taken, written, accepted_next, done_can_walk, done_of_kept, grown_can_walk, leading_walks, next_taken, ok_no_err, redone_can_walk, redone_of_kept, refused_alike, run_leaves, same_ok, same_session, undone_can_walk, undone_of_kept, walked_is_valid, none_dropped}
+pub use Rattle.par2_spec.specs.Prelude.{Change, FolderState, Remove, Rename, Write, inverse, is_applicable, places_taken, state_after, state_after_all, Action, Command, Create, Do, Purge, Redo, Repair, Undo, Folder, bytes_of, fingerprint, has, Accepted, Ended, History, IsChanging, MayBeRefused, Passed, Refusal, Execution, HalfwayPart, Journal, Spells, halfway_where, is_valid, opened_by_part, LeadsToAfterRequested, after, early_refusal, refusal, CanWalk, KeptSession, OnlyGrew, Session, changes_unless, first_entry, others, session_of_kept, session_unless, session_with, Step, step_of, action_of, create_args_of, NothingToUndo, NothingToRedo, folders, Replace}
+unfoldable pub use Rattle.par2_spec.specs.Prelude.{are_applicable, effect, effects, folders_after, takes_all, way_back, history_after, halfway_journal, leads, leads_through, settled_journal, changes_requested, history_of, kept_done, kept_redone, kept_undone, session_after, walks, folders_along}
 pub use Rattle.par2_spec.specs.declared.Version.TheVariants.{Two}
+pub use Rattle.std.proofs.lemmas.List.Edits.{insert_end, length-insert}
+pub use Rattle.par2_laws.proofs.UndoneFolders.{one_fewer}
+pub use Rattle.par2_spec.specs.declared.JournalFault.{JournalFault}
+pub use Rattle.par2_spec.specs.declared.JournalFault.TheVariants.{JournalInvalid, FolderChanged, Memory}
+pub use Rattle.par2_journal.specs.declared.opening.Opened.{Opened}
+pub use Rattle.par2_spec.proofs.StopLaws.{through_applies}
+pub use Rattle.std.proofs.lemmas.Slice.Eq.{bytes_eq-Decides}
+pub use Rattle.md5.specs.Md5.{md5}
+pub use Rattle.par2_journal_format.proofs.Whole.{spells_sealed}
+pub use Rattle.std.proofs.lemmas.List.Sums.{sum_by-take-drop, sum_by-cons}
+pub use Rattle.std.proofs.lemmas.List.Sorted.{sum_by-IsPermutation, IsPermutation-reverse}
+pub use Rattle.par2_spec.specs.declared.Fault.{Fault}
+pub use Rattle.par2_spec.specs.declared.Fault.TheVariants.{RepairFailed}
+pub use Rattle.par2_journal.specs.declared.commands.SessionFault.{SessionFault}
+pub use Rattle.par2_journal.specs.declared.commands.SessionFault.TheVariants.{Plan}
+pub use Rattle.par2_journal.specs.declared.commands.Journals.{Journals}
+pub use Rattle.std.specs.Ordering.{eq_by_cmp, nat_cmp}
+pub use Rattle.std.specs.Cmp.{eq_by_cmp_equiv}

@@ -1,10 +1,5 @@
 -- The entries of a session before and after one of them is replaced by its inverse.
-use Rattle.par2_journal.proofs.Common.{map, ◌≡◌, ℕ, ◌+◌, ◌<◌, ◌≤◌, List, [], ◌∷◌, ◌++◌, length, get_or, set, take, drop, sym, ap, ◌∙◌, arith, length-take, drop_more, length-map, get_or-map, take_all, drop_all, take_more, take_more_set, take-set, reverse-append, drop-set-lt, reverse, insert, ◌≢◌, suc, Ok, Err, Result, Bool, true, IsTrue, refl, subst, false≢true, IsFalse, IsErr, ◌↔◌, OnOk, is_ok, action_of, Change, Action, Do, Undo, Redo, Command, History, history_after, Execution, Accepted, Passed, MayBeRefused, IsChanging, Refusal, Session, KeptSession, OnlyGrew, CanWalk, session_of_kept, session_with, session_unless, first_entry, history_of, kept_done, session_after, changes_requested, accepted_next, refused_alike, done_of_kept, undone_of_kept, redone_of_kept, walked_is_valid, same_session, Next, action_for, entries_for, moved, next_changes, next_of, is_valid, LeadsToAfterRequested, zero, inl, inr, cases_lt, drop-set, FolderState, takes_all, state_after_all, way_back, others, walks, kept_undone, kept_redone, undone_can_walk, redone_can_walk, done_can_walk, next_taken, Folder, length-append, effect, effects, inverse, state_after, state_files, state_all_back, way_back_taken, changes_back, changes_in, WentForth}
-use Rattle.std.proofs.lemmas.List.Edits.{insert_end, length-insert}
-use Rattle.par2_spec.specs.Prelude.{NothingToUndo, NothingToRedo, folders, folders_along}
-use Rattle.par2_spec.proofs.FolderLaws.{none_dropped}
-use Rattle.par2_laws.proofs.UndoneFolders.{one_fewer}
-use Rattle.par2_journal.specs.Commands.{AreUndone, UndosGiveBack, kept_history}
+use Rattle.par2_journal.proofs.Common.{map, ◌≡◌, ℕ, ◌+◌, ◌<◌, ◌≤◌, List, [], ◌∷◌, ◌++◌, length, get_or, set, take, drop, sym, ap, ◌∙◌, arith, length-take, drop_more, length-map, get_or-map, take_all, drop_all, take_more, take_more_set, take-set, reverse-append, drop-set-lt, reverse, insert, ◌≢◌, suc, Ok, Err, Result, Bool, true, IsTrue, refl, subst, false≢true, IsFalse, IsErr, ◌↔◌, OnOk, is_ok, action_of, Change, Action, Do, Undo, Redo, Command, History, history_after, Execution, Accepted, Passed, MayBeRefused, IsChanging, Refusal, Session, KeptSession, OnlyGrew, CanWalk, session_of_kept, session_with, session_unless, first_entry, history_of, kept_done, session_after, changes_requested, accepted_next, refused_alike, done_of_kept, undone_of_kept, redone_of_kept, walked_is_valid, same_session, Next, action_for, entries_for, moved, next_changes, next_of, is_valid, LeadsToAfterRequested, zero, inl, inr, cases_lt, drop-set, FolderState, takes_all, state_after_all, way_back, others, walks, kept_undone, kept_redone, undone_can_walk, redone_can_walk, done_can_walk, next_taken, Folder, length-append, effect, effects, inverse, state_after, state_files, state_all_back, way_back_taken, changes_back, changes_in, WentForth, insert_end, length-insert, NothingToUndo, NothingToRedo, folders, folders_along, none_dropped, one_fewer, AreUndone, UndosGiveBack, kept_history}
 use Rattle.par2_spec.specs.declared.commands.Action as given
 use Rattle.par2_journal.specs.declared.opening.Next.TheVariants as next
 use Rattle.par2_files.specs.declared.change.Change as owned

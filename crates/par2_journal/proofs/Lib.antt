@@ -3,3 +3,4 @@ pub mod Readiness
 mod Openings
 mod TriedNames
 pub mod Entries
+mod Names

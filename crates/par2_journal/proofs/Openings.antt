@@ -1,14 +1,6 @@
 -- Results of opening journals.
-use Rattle.par2_journal.proofs.Common.{◌≡◌, inl, inr, ℕ, ◌+◌, ◌-◌, ◌≤◌, Bool, true, false, not, ◌&&◌, List, [], ◌∷◌, length, map, take, drop, Option, Some, None, Result, Ok, Err, refl, sym, ap, subst, ◌∙◌, arith, leb, and_from, and_parts, both_ways, false_from_ne_true, cases_Bool, le-leb, leb-true, ⊎_map, reverse, position, if◌then◌else◌, ◌↔◌, ◌⊎◌, pointwise, bytes_eq, Folder, fingerprint, Change, FolderState, effect, effects, is_applicable, takes_all, state_after_all, are_applicable, folders_after, Journal, HalfwayPart, Spells, is_valid, leads_through, session_at, AnswersWhere, OpensAsIs, AnswersOpening, IsReportedWhere, more_room_all, state_files}
+use Rattle.par2_journal.proofs.Common.{◌≡◌, inl, inr, ℕ, ◌+◌, ◌-◌, ◌≤◌, Bool, true, false, not, ◌&&◌, List, [], ◌∷◌, length, map, take, drop, Option, Some, None, Result, Ok, Err, refl, sym, ap, subst, ◌∙◌, arith, leb, and_from, and_parts, both_ways, false_from_ne_true, cases_Bool, le-leb, leb-true, ⊎_map, reverse, position, if◌then◌else◌, ◌↔◌, ◌⊎◌, pointwise, bytes_eq, Folder, fingerprint, Change, FolderState, effect, effects, is_applicable, takes_all, state_after_all, are_applicable, folders_after, Journal, HalfwayPart, Spells, is_valid, leads_through, session_at, AnswersWhere, OpensAsIs, AnswersOpening, IsReportedWhere, more_room_all, state_files, JournalFault, JournalInvalid, FolderChanged, Memory, IsRefusal, IsSealed, Opened, through_applies, bytes_eq-Decides, md5, spells_sealed}
 use Rattle.par2_spec.specs.Opening as defined
-use Rattle.par2_spec.specs.declared.JournalFault.{JournalFault}
-use Rattle.par2_spec.specs.declared.JournalFault.TheVariants.{JournalInvalid, FolderChanged, Memory}
-use Rattle.par2_journal_format.specs.Journals.{IsRefusal, IsSealed}
-use Rattle.par2_journal.specs.declared.opening.Opened.{Opened}
-use Rattle.par2_spec.proofs.StopLaws.{through_applies}
-use Rattle.std.proofs.lemmas.Slice.Eq.{bytes_eq-Decides}
-use Rattle.md5.specs.Md5.{md5}
-use Rattle.par2_journal_format.proofs.Whole.{spells_sealed}
 
 -- changes that apply lead through these fingerprints if those of the folders that they leave are equal to them
 through_is : (f : Folder) (cs : List Change) (ps : List (List ℕ)) → length ps ≡ length cs → are_applicable f cs ≡ true → leads_through f cs ps ≡ pointwise bytes_eq (map fingerprint (folders_after f cs)) ps

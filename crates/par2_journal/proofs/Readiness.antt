@@ -1,17 +1,7 @@
 -- Actions that a session prepares.
-use Rattle.par2_journal.proofs.Common.{Action, Command, Do, Repair, ◌≡◌, ◌≢◌, inl, inr, ◌⊎◌, ℕ, Bool, ◌<◌, ◌≤◌, List, [], ◌∷◌, length, map, None, Some, IsTrue, Result, Ok, Err, true, refl, sym, ap, subst, ◌∙◌, arith, IfOk, IfErr, IsErrAnd, MatchResult, Change, Write, Rename, Remove, places_taken, are_applicable, effects, FolderState, Folder, LeadsToAfterRequested, KeptSession, OnlyGrew, session_of_kept, changes_unless, first_entry, changes_requested, Step, step_of, takes_applicable, Vec, Global, Kind, Prepared, Changing, Moving, CanBe, Fits, HasPrintsOf, IsReady, Next, action_for, after_commit, changes_by_kind, entries_for, next_changes, next_of, prints_along, IsChanging, refusal, after, early_refusal, HasItsMd5s, IsDraft, Draft, ◌-◌, get_or, take, drop, take_all, length-drop, Option, IfSome, fingerprint, effect, folders_after, reverse, sum_by, ◌+◌, ◌++◌, append-nil, reverse-reverse, take-append-drop, length-reverse, length-take-le, reverse-append, state_after_all, takes_all, way_back, CanWalk, walks, session_with, session_unless, kept_undone, kept_redone, session_after, kept_done, Journal, Spells, halfway_where, settled_journal, halfway_journal, Two, kept_journal, moved, opposite, CompletesHalfway, SpellsReady, SpellsWhere, halfway_with, state_all_back, changes_back, takes_none, next_taken, same_session, same_ok}
-use Rattle.std.proofs.lemmas.List.Sums.{sum_by-take-drop, sum_by-cons}
-use Rattle.std.proofs.lemmas.List.Sorted.{sum_by-IsPermutation, IsPermutation-reverse}
-use Rattle.par2_journal.specs.Commands.{MakesReady, Prepares}
-use Rattle.par2_spec.specs.Prelude.{Replace}
-use Rattle.par2_spec.specs.declared.Fault.{Fault}
-use Rattle.par2_spec.specs.declared.Fault.TheVariants.{Memory, RepairFailed}
-use Rattle.par2_journal.specs.Commands.{MayRefuse, nothing_for}
+use Rattle.par2_journal.proofs.Common.{Action, Command, Do, Repair, ◌≡◌, ◌≢◌, inl, inr, ◌⊎◌, ℕ, Bool, ◌<◌, ◌≤◌, List, [], ◌∷◌, length, map, None, Some, IsTrue, Result, Ok, Err, true, refl, sym, ap, subst, ◌∙◌, arith, IfOk, IfErr, IsErrAnd, MatchResult, Change, Write, Rename, Remove, places_taken, are_applicable, effects, FolderState, Folder, LeadsToAfterRequested, KeptSession, OnlyGrew, session_of_kept, changes_unless, first_entry, changes_requested, Step, step_of, takes_applicable, Vec, Global, Kind, Prepared, Changing, Moving, CanBe, Fits, HasPrintsOf, IsReady, Next, action_for, after_commit, changes_by_kind, entries_for, next_changes, next_of, prints_along, IsChanging, refusal, after, early_refusal, HasItsMd5s, IsDraft, Draft, ◌-◌, get_or, take, drop, take_all, length-drop, Option, IfSome, fingerprint, effect, folders_after, reverse, sum_by, ◌+◌, ◌++◌, append-nil, reverse-reverse, take-append-drop, length-reverse, length-take-le, reverse-append, state_after_all, takes_all, way_back, CanWalk, walks, session_with, session_unless, kept_undone, kept_redone, session_after, kept_done, Journal, Spells, halfway_where, settled_journal, halfway_journal, Two, kept_journal, moved, opposite, CompletesHalfway, SpellsReady, SpellsWhere, halfway_with, state_all_back, changes_back, takes_none, next_taken, same_session, same_ok, sum_by-take-drop, sum_by-cons, sum_by-IsPermutation, IsPermutation-reverse, MakesReady, Prepares, Replace, Fault, RepairFailed, MayRefuse, nothing_for, SessionFault, Plan, Begins, Journals}
+use Rattle.par2_spec.specs.declared.Fault.TheVariants.{Memory}
 use Rattle.par2_journal.proofs.Entries.{command_done, move_requested, move_done, at, back_length}
-use Rattle.par2_journal.specs.declared.commands.SessionFault.{SessionFault}
-use Rattle.par2_journal.specs.declared.commands.SessionFault.TheVariants.{Plan}
-use Rattle.par2_journal_format.specs.Journals.{Begins}
-use Rattle.par2_journal.specs.declared.commands.Journals.{Journals}
 use Rattle.par2_spec.specs.Plans as plans
 use Rattle.par2_spec.specs.History as history
 use Rattle.par2_journal.specs.declared.opening.Next.TheVariants as next

@@ -17,3 +17,12 @@ pub use Rattle.par2_spec.specs.Prelude.{AreBytes, Change, HalfwayPart, IsChange,
 unfoldable pub use Rattle.par2_spec.specs.Prelude.{journal_bytes, spelling}
 pub use Rattle.par2_spec.specs.declared.JournalFault.{JournalFault}
 pub use Rattle.par2_spec.specs.declared.JournalFault.TheVariants.{FolderChanged, JournalInvalid, Memory}
+pub use Rattle.std.proofs.lemmas.Nat.{le_bytes_8, from_le_bytes-to_le_bytes_8}
+pub use Rattle.std.proofs.lemmas.List.Concat.{concat_is}
+pub use Rattle.md5.specs.Md5.{md5}
+pub use Rattle.std.specs.Str.{bytes_eq}
+pub use Rattle.std.proofs.lemmas.Slice.Eq.{bytes_eq-Decides}
+pub use Rattle.par2_spec.specs.declared.Version.{Version}
+pub use Rattle.md5.proofs.StandardFacts.{length-md5}
+pub use Rattle.par2_spec.specs.declared.Version.TheVariants.{One, Two}
+pub use Rattle.std.proofs.lemmas.List.Sums.{sum_by-cons}

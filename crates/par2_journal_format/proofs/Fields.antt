@@ -1,7 +1,5 @@
 -- Blocks, numbers and several values: what is read was there, what is written is read again, and loops over both.
-use Rattle.par2_journal_format.proofs.Common.{◌≡◌, ℕ, suc, ◌-◌, ◌+◌, ◌≤◌, ◌<◌, List, [], ◌∷◌, ◌++◌, length, take, get_or, Option, Some, None, refl, sym, ap, subst, ◌∙◌, append_assoc, arith, zero, ◌^◌, Bool, true, false, cond, ltb, drop, leb, flat_map, if◌then◌else◌, IsTrue, IfSome, AllByRecursion, concat, append-nil, flat_map_more, take_more, take_all, take_at, drop_at, take-append-drop, length-append, length-take-le, all-append, all_at, JournalFault, FolderChanged, JournalInvalid, Memory, ◌>>=◌, Fails, many_at, block_at, number_at, name_at, behind_length_at, two_at, change_at, entry_at, halfway_at, w64, to_le_bytes, from_le_bytes, ltb-false, le-ltb, leb-true, le-leb, same_Some, cond_some, AreBytes, Change, Write, Replace, Rename, Remove, HalfwayPart, IsFileBytes, IsDigest, IsChange, IsEntry, IsHalfwayPart, name_bytes, change_bytes, entry_bytes, halfway_bytes, bytes-take, bytes-drop, is_name, behind_length}
-use Rattle.std.proofs.lemmas.Nat.{le_bytes_8, from_le_bytes-to_le_bytes_8}
-use Rattle.std.proofs.lemmas.List.Concat.{concat_is}
+use Rattle.par2_journal_format.proofs.Common.{◌≡◌, ℕ, suc, ◌-◌, ◌+◌, ◌≤◌, ◌<◌, List, [], ◌∷◌, ◌++◌, length, take, get_or, Option, Some, None, refl, sym, ap, subst, ◌∙◌, append_assoc, arith, zero, ◌^◌, Bool, true, false, cond, ltb, drop, leb, flat_map, if◌then◌else◌, IsTrue, IfSome, AllByRecursion, concat, append-nil, flat_map_more, take_more, take_all, take_at, drop_at, take-append-drop, length-append, length-take-le, all-append, all_at, JournalFault, FolderChanged, JournalInvalid, Memory, ◌>>=◌, Fails, many_at, block_at, number_at, name_at, behind_length_at, two_at, change_at, entry_at, halfway_at, w64, to_le_bytes, from_le_bytes, ltb-false, le-ltb, leb-true, le-leb, same_Some, cond_some, AreBytes, Change, Write, Replace, Rename, Remove, HalfwayPart, IsFileBytes, IsDigest, IsChange, IsEntry, IsHalfwayPart, name_bytes, change_bytes, entry_bytes, halfway_bytes, bytes-take, bytes-drop, is_name, behind_length, le_bytes_8, from_le_bytes-to_le_bytes_8, concat_is}
 
 abbrev pub Reader : Type 0 → Type 0
 Reader A = List ℕ → Option (A × List ℕ)

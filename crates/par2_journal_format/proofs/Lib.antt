@@ -1,3 +1,4 @@
 mod Common
 pub mod Fields
 pub mod Whole
+mod Names

@@ -1,13 +1,6 @@
 -- Whole journals: what is read is spelled so, and what is spelled so is read, before its digest is tested and after.
-use Rattle.par2_journal_format.proofs.Common.{err_from_is_err_and, ◌≡◌, ℕ, ◌-◌, ◌+◌, ◌^◌, ◌≤◌, ◌<◌, Bool, true, false, cond, leb, eqb, ◌&&◌, List, [], ◌++◌, length, take, drop, Option, Some, None, refl, sym, ap, subst, ◌∙◌, append_assoc, arith, inl, inr, ◌∷◌, Result, Err, flat_map, ◌⊎◌, if◌then◌else◌, ◌↔◌, w64, to_le_bytes, leb-true, le-leb, eqb-true, and_parts, and_from, same_Some, cond_some, none-some, append-nil, nil_from_length, take-append-drop, take_at, drop_at, length-append, Change, HalfwayPart, Journal, IsEntry, IsCursor, IsJournal, Spells, heading, cursor_bytes, entry_bytes, halfway_bytes, journal_bytes, spelling, AreBytes, Write, Replace, Rename, Remove, change_bytes, bytes-take, ◌>>=◌, block_at, number_at, many_at, entry_at, halfway_at, cursor_in, IsSealed, heading_at, cursor_at, parts_at, Fails, AreCounted, Continues, Begins, IsRefusal, JournalFault, FolderChanged, JournalInvalid, Memory, sum_by}
-use Rattle.md5.specs.Md5.{md5}
-use Rattle.std.specs.Str.{bytes_eq}
-use Rattle.std.proofs.lemmas.Slice.Eq.{bytes_eq-Decides}
-use Rattle.par2_spec.specs.declared.Version.{Version}
-use Rattle.md5.proofs.StandardFacts.{length-md5}
-use Rattle.par2_spec.specs.declared.Version.TheVariants.{One, Two}
+use Rattle.par2_journal_format.proofs.Common.{err_from_is_err_and, ◌≡◌, ℕ, ◌-◌, ◌+◌, ◌^◌, ◌≤◌, ◌<◌, Bool, true, false, cond, leb, eqb, ◌&&◌, List, [], ◌++◌, length, take, drop, Option, Some, None, refl, sym, ap, subst, ◌∙◌, append_assoc, arith, inl, inr, ◌∷◌, Result, Err, flat_map, ◌⊎◌, if◌then◌else◌, ◌↔◌, w64, to_le_bytes, leb-true, le-leb, eqb-true, and_parts, and_from, same_Some, cond_some, none-some, append-nil, nil_from_length, take-append-drop, take_at, drop_at, length-append, Change, HalfwayPart, Journal, IsEntry, IsCursor, IsJournal, Spells, heading, cursor_bytes, entry_bytes, halfway_bytes, journal_bytes, spelling, AreBytes, Write, Replace, Rename, Remove, change_bytes, bytes-take, ◌>>=◌, block_at, number_at, many_at, entry_at, halfway_at, cursor_in, IsSealed, heading_at, cursor_at, parts_at, Fails, AreCounted, Continues, Begins, IsRefusal, JournalFault, FolderChanged, JournalInvalid, Memory, sum_by, md5, bytes_eq, bytes_eq-Decides, Version, length-md5, One, Two, sum_by-cons}
 use Rattle.par2_journal_format.proofs.Fields.{bind_some, Took, Took-then, block_read, block_again, number_read, number_again, many_read, entry_read, halfway_read}
-use Rattle.std.proofs.lemmas.List.Sums.{sum_by-cons}
 
 -- ---- heading
 

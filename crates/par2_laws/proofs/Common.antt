@@ -10,14 +10,22 @@ pub use Rattle.std.proofs.lemmas.List.Sorted.{IsPermutation-map, IsPermutation-s
 pub use Rattle.std.specs.FinMap.{get-entries, is_sorted}
 pub use Rattle.std.specs.List.{slice_index_or}
 pub use Rattle.std.specs.Prelude.{IsTrue, bit_xor, slice_get}
-pub use Rattle.par2_spec.specs.Prelude.{FitsCreate, FollowsCreate, IsDamage, may_refuse, written_names, HaveAChoice, IsTrueTo, HoldsBytes, AreAllOf, AreDescribed, IsOf, is_read, AreInputs, HoldsVolumes, IsOfOthers, IsVolume, IsVolumeOrOther, set_id_of, History, after_undo, folders, in_front, unless_refused, is_input_name, id_of, Matches}
-pub use Rattle.par2_spec.proofs.FilesLaws.{at_name, names_of_files, made_size, purged_files, repaired_files, right_digests, size_even}
+pub use Rattle.par2_spec.specs.Prelude.{FitsCreate, FollowsCreate, IsDamage, may_refuse, written_names, HaveAChoice, IsTrueTo, HoldsBytes, AreAllOf, AreDescribed, IsOf, is_read, AreInputs, HoldsVolumes, IsOfOthers, IsVolume, IsVolumeOrOther, set_id_of, History, after_undo, folders, in_front, unless_refused, is_input_name, id_of, Matches, HasFiles, OthersAgree, RefusedRepairLeavesTwoLists}
+pub use Rattle.par2_spec.proofs.FilesLaws.{at_name, names_of_files, made_size, purged_files, repaired_files, right_digests, size_even, length-window, bytes-window, bytes-slice_at}
 pub use Rattle.par2_spec.proofs.ListsLaws.{all-filter_map, found_at_key, distinct_same, all_none, at_none, where_none}
 pub use Rattle.par2_spec.proofs.OrderLaws.{moved-all, moved-ordered}
 pub use Rattle.par2_spec.proofs.SearchLaws.{all-entries, distinct_by_length, finished, mapped, no_slices, read_by, set_with, target_with}
-pub use Rattle.par2_spec.proofs.WrittenSets.{desc_reads, ifsc_reads, index_reads, main_reads, recovery_slices_read}
+pub use Rattle.par2_spec.proofs.WrittenSets.{desc_reads, ifsc_reads, index_reads, main_reads, recovery_slices_read, none_short}
 unfoldable pub use Rattle.par2_spec.specs.Prelude.{history_after, packets_of}
 pub use Rattle.par2_spec.specs.declared.Fault.TheVariants.{BadBase, BadCount, BadName, BadSet, BadSliceSize, DuplicateId, DuplicateInput, EmptyFile, Exists, Memory, NameTooLong, NoChecksums, NoDescription, NoInput, NoMain, NoPackets, NoSuchFile, NotRepairable, RepairFailed, TooManySlices}
 pub use Rattle.par2_spec.specs.declared.Kind.TheVariants.{Creator, FileDesc, Ifsc, Main, Other, Recovery}
 pub use Rattle.par2_spec.specs.declared.Fault.{Fault}
 pub use Rattle.par2_spec.specs.declared.Kind.{Kind}
+pub use Rattle.par2_spec.proofs.MovesLaws.{get_put}
+pub use Rattle.std.proofs.Math.Nat.{zero-mul}
+pub use Rattle.std.specs.Cmp.{tied_itself}
+pub use Rattle.par2_spec.proofs.AcceptedCommands.{missing, in_full, in_part, set_in_reads}
+pub use Rattle.par2_spec.proofs.RefusedLaws.{another_choice, first_cause, size_two}
+pub use Rattle.par2_spec.proofs.RepairLaws.{Fits, targets_fit}
+pub use Rattle.par2_spec.proofs.ExistLaws.{two_agree}
+pub use Rattle.par2_spec.proofs.NameTests.{tests_of}

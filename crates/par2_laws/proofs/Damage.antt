@@ -1,7 +1,5 @@
 -- The PAR2 files of a create after damage.
-use Rattle.par2_laws.proofs.Common.{Command, Repair, NotRepairable, may_refuse, ◌≡◌, ℕ, ◌+◌, ◌^◌, ◌<◌, ◌≤◌, true, false, not, ◌&&◌, List, [], ◌∷◌, ◌++◌, length, map, take, Option, None, sym, ap, ◌∙◌, subst, append_assoc, length-append, arith, Bool, Some, refl, inr, ◌⊎◌, unwrap_or, sum_by, nat_lt, ◌==◌, filter, AllByRecursion, list_any, enumerate_from, Contains, IsDistinct, bytes_eq, get-entries, nat_cmp, slice_cmp, not-false, and_parts, or_parts, eqb-true, eqb-false, ltb-false, false≢true, or_from, div_ceil_times, common_steps, length-map, sum_by-cons, Fault, BadSliceSize, BadCount, BadBase, NoInput, BadName, DuplicateInput, NoSuchFile, EmptyFile, TooManySlices, DuplicateId, NameTooLong, Exists, fault_where, fault_at, slice_count, slices, is_name, is_par_name, is_among, distinct, Folder, File, IsFolder, has, bytes_of, files, laid_over, id_of, volume_name, volume_numbers, volume_size, volumes_before, all_slices, in_id_order, volumes, record_of, is_slice_size, MadeFrom, target_of_file, target_names, CreateArgs, Create, files_of, outputs_of, are_counts, is_input_name, refusal, create_refusal, after, AreInputs, IsVolume, IsVolumeOrOther, IsOfOthers, set_id_of, FitsCreate, IsDamage, written_names, FollowsCreate, all_weaker, size_positive, distinct_by_length, same_either_way, std_from_distinct, found_at_key, contained_first, contained_later, all-append, all-parts, all-flat_map, where_none, all_none, at_none, some_if, by_either, names_of_files, at_name, recursion_from_All, filter_passes, same_Some, IsPermutation-sym, IsPermutation-map, map-map, pair_of, Matches, windows, AreBytes, candidates, NoCollision, all-filter, moved-all, moved-ordered, IsTrueTo, accepted_after, take-append_seam, drop-append_seam, list_any-append, HaveAChoice, all-each, all-map}
-use Rattle.par2_spec.proofs.MovesLaws.{get_put}
-use Rattle.std.proofs.Math.Nat.{zero-mul}
+use Rattle.par2_laws.proofs.Common.{Command, Repair, NotRepairable, may_refuse, ◌≡◌, ℕ, ◌+◌, ◌^◌, ◌<◌, ◌≤◌, true, false, not, ◌&&◌, List, [], ◌∷◌, ◌++◌, length, map, take, Option, None, sym, ap, ◌∙◌, subst, append_assoc, length-append, arith, Bool, Some, refl, inr, ◌⊎◌, unwrap_or, sum_by, nat_lt, ◌==◌, filter, AllByRecursion, list_any, enumerate_from, Contains, IsDistinct, bytes_eq, get-entries, nat_cmp, slice_cmp, not-false, and_parts, or_parts, eqb-true, eqb-false, ltb-false, false≢true, or_from, div_ceil_times, common_steps, length-map, sum_by-cons, Fault, BadSliceSize, BadCount, BadBase, NoInput, BadName, DuplicateInput, NoSuchFile, EmptyFile, TooManySlices, DuplicateId, NameTooLong, Exists, fault_where, fault_at, slice_count, slices, is_name, is_par_name, is_among, distinct, Folder, File, IsFolder, has, bytes_of, files, laid_over, id_of, volume_name, volume_numbers, volume_size, volumes_before, all_slices, in_id_order, volumes, record_of, is_slice_size, MadeFrom, target_of_file, target_names, CreateArgs, Create, files_of, outputs_of, are_counts, is_input_name, refusal, create_refusal, after, AreInputs, IsVolume, IsVolumeOrOther, IsOfOthers, set_id_of, FitsCreate, IsDamage, written_names, FollowsCreate, all_weaker, size_positive, distinct_by_length, same_either_way, std_from_distinct, found_at_key, contained_first, contained_later, all-append, all-parts, all-flat_map, where_none, all_none, at_none, some_if, by_either, names_of_files, at_name, recursion_from_All, filter_passes, same_Some, IsPermutation-sym, IsPermutation-map, map-map, pair_of, Matches, windows, AreBytes, candidates, NoCollision, all-filter, moved-all, moved-ordered, IsTrueTo, accepted_after, take-append_seam, drop-append_seam, list_any-append, HaveAChoice, all-each, all-map, get_put, zero-mul}
 use Rattle.par2_laws.proofs.VolumeFolders.{set_made}
 use Rattle.par2_laws.proofs.Reading.{reading, leaves_files, never_fails, has_choice, refused_by}
 use Rattle.std.specs.FinMap as map_of

@@ -1,13 +1,6 @@
 -- The set that a repair reads, and the files that it was made from.
-use Rattle.par2_laws.proofs.Common.{ℕ, ◌<◌, ◌%◌, List, Bool, true, false, ◌≡◌, ◌⊎◌, inl, inr, sym, ◌∙◌, refl, arith, Ok, Err, None, Some, list_all, both_ways, and_parts, by_either, NoSuchFile, NotRepairable, RepairFailed, Folder, File, ParSet, has, set_of, set_in, candidates, known, lost, survivors, IsRepairable, Repair, refusal, repair_refusal, after, rebuilt_targets, IsTrueTo, made_size, purged_files, repaired_files, right_digests, present_searched, after_repair, after_repair_and_purge, [], ◌∷◌, not, not-true, Option, bytes_eq, md5, Fault, NameTooLong, first_fault, fault_where, is_repairable, rank, Target, repairable-iff, may_refuse, zero, suc, length, map, subst, drop, ap, cond, ◌&&◌, unwrap_or, flat_map, nat_lt, ◌==◌, if◌then◌else◌, AllByRecursion, range_with_len, Pair, AreBytes, get-entries, nat_cmp, slice_cmp, windows, bytes_of, packets_with, recovery_of, other_par_names, found_one, found_at_key, all-flat_map, all-filter_map, all-map, accepted, Packet, RecoveryBody, accepted_after, read_recovery, all-filter, all-entries, all_weaker, HoldsBytes, size_even, sound_of, all-each, all-take, all-drop, all-both, T-parts, begins_with_packet, claimed_length, first_packet, AreSurvivors, IsSound, window, is_match, found, ◌-◌, T, is_sorted, entries_sorted, eq_by_cmp, is_lt, is_eq, ForSome, below_all, nat_cmp_total, read_by}
+use Rattle.par2_laws.proofs.Common.{ℕ, ◌<◌, ◌%◌, List, Bool, true, false, ◌≡◌, ◌⊎◌, inl, inr, sym, ◌∙◌, refl, arith, Ok, Err, None, Some, list_all, both_ways, and_parts, by_either, NoSuchFile, NotRepairable, RepairFailed, Folder, File, ParSet, has, set_of, set_in, candidates, known, lost, survivors, IsRepairable, Repair, refusal, repair_refusal, after, rebuilt_targets, IsTrueTo, made_size, purged_files, repaired_files, right_digests, present_searched, after_repair, after_repair_and_purge, [], ◌∷◌, not, not-true, Option, bytes_eq, md5, Fault, NameTooLong, first_fault, fault_where, is_repairable, rank, Target, repairable-iff, may_refuse, zero, suc, length, map, subst, drop, ap, cond, ◌&&◌, unwrap_or, flat_map, nat_lt, ◌==◌, if◌then◌else◌, AllByRecursion, range_with_len, Pair, AreBytes, get-entries, nat_cmp, slice_cmp, windows, bytes_of, packets_with, recovery_of, other_par_names, found_one, found_at_key, all-flat_map, all-filter_map, all-map, accepted, Packet, RecoveryBody, accepted_after, read_recovery, all-filter, all-entries, all_weaker, HoldsBytes, size_even, sound_of, all-each, all-take, all-drop, all-both, T-parts, begins_with_packet, claimed_length, first_packet, AreSurvivors, IsSound, window, is_match, found, ◌-◌, T, is_sorted, entries_sorted, eq_by_cmp, is_lt, is_eq, ForSome, below_all, nat_cmp_total, read_by, tied_itself, missing, in_full, in_part, set_in_reads, another_choice, first_cause, size_two, Fits, targets_fit, HasFiles, OthersAgree, RefusedRepairLeavesTwoLists, length-window, bytes-window, two_agree}
 use Rattle.std.specs.FinMap.{find}
-use Rattle.std.specs.Cmp.{tied_itself}
-use Rattle.par2_spec.proofs.AcceptedCommands.{missing, in_full, in_part, set_in_reads}
-use Rattle.par2_spec.proofs.RefusedLaws.{another_choice, first_cause, size_two}
-use Rattle.par2_spec.proofs.RepairLaws.{Fits, targets_fit}
-use Rattle.par2_spec.specs.Prelude.{HasFiles, OthersAgree, RefusedRepairLeavesTwoLists}
-use Rattle.par2_spec.proofs.FilesLaws.{length-window, bytes-window}
-use Rattle.par2_spec.proofs.ExistLaws.{two_agree}
 use Rattle.std.specs.FinMap as map_of
 
 -- the refusal: whether the set is repairable, an aside is too long, and the MD5s are right

@@ -1,7 +1,6 @@
 -- A set whose packets are those of known files was made from them.
-use Rattle.par2_laws.proofs.Common.{by_test, ◌≡◌, ℕ, ◌<◌, ◌^◌, false, List, [], ◌∷◌, ◌++◌, length, map, Some, refl, sym, ap, ◌∙◌, subst, arith, true, Option, None, inl, inr, ◌⊎◌, ◌&&◌, Ok, IsTrue, ◌==◌, nat_lt, filter_map, find, slice_get, option_map, option_and_then, if◌then◌else◌, flat_map, AllByRecursion, Contains, list_any, range_with_len, IsDistinct, length-map, recursion_from_All, All-contains_itself, same_Some, none-some, length-md5, Kind, Main, FileDesc, Ifsc, Recovery, Creator, Other, AreBytes, File, Folder, bytes_of, Packet, MainBody, DescBody, IfscBody, RecoveryBody, accepted, read_main, read_desc, read_ifsc, read_recovery, FileRecord, all_slices, main_bytes, desc_bytes, ifsc_bytes, recovery_bytes, id_of, record_of, packets_of, AreDescribed, is_read, IsOf, AreAllOf, all-append, of_contained, all-map, all-filter_map, found_one, all_unmap, all-passing, all-flat_map-map, bytes_eq, false≢true, and_parts, eqb-true, map-map, md5, Pair, pair_of, slice_count, slice_at, slices, Target, all_some, main_of, description_of, pairs_of, target_of, recovery_of, target_of_file, ParSet, MadeFrom, packets_with, read_set, other_par_names, set_of, all_weaker, all-filter, mapped, target_with, no_slices, all-entries, read_by, same_name, itself, main_reads, ifsc_reads, desc_reads, by_either, common_steps, recovery, all-each, all-both, zero, suc, ◌+◌, ◌*◌, ◌/◌, ◌%◌, bit_xor, fold, crc_step, crc_steps, crc_byte, IsPair, crc32, xor_lt}
+use Rattle.par2_laws.proofs.Common.{by_test, ◌≡◌, ℕ, ◌<◌, ◌^◌, false, List, [], ◌∷◌, ◌++◌, length, map, Some, refl, sym, ap, ◌∙◌, subst, arith, true, Option, None, inl, inr, ◌⊎◌, ◌&&◌, Ok, IsTrue, ◌==◌, nat_lt, filter_map, find, slice_get, option_map, option_and_then, if◌then◌else◌, flat_map, AllByRecursion, Contains, list_any, range_with_len, IsDistinct, length-map, recursion_from_All, All-contains_itself, same_Some, none-some, length-md5, Kind, Main, FileDesc, Ifsc, Recovery, Creator, Other, AreBytes, File, Folder, bytes_of, Packet, MainBody, DescBody, IfscBody, RecoveryBody, accepted, read_main, read_desc, read_ifsc, read_recovery, FileRecord, all_slices, main_bytes, desc_bytes, ifsc_bytes, recovery_bytes, id_of, record_of, packets_of, AreDescribed, is_read, IsOf, AreAllOf, all-append, of_contained, all-map, all-filter_map, found_one, all_unmap, all-passing, all-flat_map-map, bytes_eq, false≢true, and_parts, eqb-true, map-map, md5, Pair, pair_of, slice_count, slice_at, slices, Target, all_some, main_of, description_of, pairs_of, target_of, recovery_of, target_of_file, ParSet, MadeFrom, packets_with, read_set, other_par_names, set_of, all_weaker, all-filter, mapped, target_with, no_slices, all-entries, read_by, same_name, itself, main_reads, ifsc_reads, desc_reads, by_either, common_steps, recovery, all-each, all-both, zero, suc, ◌+◌, ◌*◌, ◌/◌, ◌%◌, bit_xor, fold, crc_step, crc_steps, crc_byte, IsPair, crc32, xor_lt, bytes-slice_at}
 use Rattle.std.specs.FinMap as map_of
-use Rattle.par2_spec.proofs.FilesLaws.{bytes-slice_at}
 
 steps_small : (n c : ℕ) → c < 2 ^ 32 → crc_steps n c < 2 ^ 32
 steps_small zero c h = h

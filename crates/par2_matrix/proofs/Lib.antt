@@ -1,3 +1,4 @@
 mod Common
 pub mod Systems
 pub mod Promises
+mod Names

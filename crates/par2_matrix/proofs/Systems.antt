@@ -1,7 +1,5 @@
 -- The null space and the solutions of a system in reduced row echelon form.
-use Rattle.par2_matrix.proofs.Common.{ℕ, zero, suc, ◌+◌, ◌<◌, ◌≤◌, ◌≡◌, ◌≢◌, ◌⊎◌, ◌↔◌, inl, inr, refl, sym, ap, ap₂, ◌∙◌, subst, arith, List, length, bit_xor, cond, eqb, cases_eq, cases_lt, eq-eqb, ne_eqb, cond-true, cond-false, suc-ne-zero, xor_self, mul, word, product_comm, product-one, product-zero, zero-product, Echelon, Vanishes, IsReduced, count_present, row_sum, GivesElements, list_at, word_empty, field_sum_one, field_sum_two, row_sum_empty, row_sum_unit, by_either, ◌*◌, get_or, cancel, echelon, Meets, ReducedBelow, PutAt, word-lt, row_sum_added, row_sum_scaled, row_sum-lt, xor_off, xor_same, ◌%◌, [], get_or_past, product-lt, AllEmpty, word_past, IsPrepared, xor_zero_r, IsInverse, AddsProducts, Scaled, set, Vec, Global, lists_of, OneChanged, written_here, written_changed, length-lists_of}
-use Rattle.std.proofs.lemmas.Nat.{xor_lt}
-use Rattle.par2_spec.proofs.FieldLaws.{xor_middle}
+use Rattle.par2_matrix.proofs.Common.{ℕ, zero, suc, ◌+◌, ◌<◌, ◌≤◌, ◌≡◌, ◌≢◌, ◌⊎◌, ◌↔◌, inl, inr, refl, sym, ap, ap₂, ◌∙◌, subst, arith, List, length, bit_xor, cond, eqb, cases_eq, cases_lt, eq-eqb, ne_eqb, cond-true, cond-false, suc-ne-zero, xor_self, mul, word, product_comm, product-one, product-zero, zero-product, Echelon, Vanishes, IsReduced, count_present, row_sum, GivesElements, list_at, word_empty, field_sum_one, field_sum_two, row_sum_empty, row_sum_unit, by_either, ◌*◌, get_or, cancel, echelon, Meets, ReducedBelow, PutAt, word-lt, row_sum_added, row_sum_scaled, row_sum-lt, xor_off, xor_same, ◌%◌, [], get_or_past, product-lt, AllEmpty, word_past, IsPrepared, xor_zero_r, IsInverse, AddsProducts, Scaled, set, Vec, Global, lists_of, OneChanged, written_here, written_changed, length-lists_of, xor_lt, xor_middle}
 
 -- a vector of the null space that the row does not send to 0
 pub record IsDistinguished (s : Echelon) (row : List ℕ) : Type 0 where

@@ -1,3 +1,4 @@
 mod Common
 pub mod BlockLaws
 pub mod LaneLaws
+mod Names

@@ -6,3 +6,4 @@ pub use Rattle.par2_output.specs.Printing.{PrinterTookAll, seen}
 pub use Rattle.par2_spec.proofs.WritingLaws.{lines_cut, part, step, wrote_less, wrote_then}
 pub use Rattle.par2_spec.specs.Prelude.{word_at}
 unfoldable pub use Rattle.par2_spec.specs.Prelude.{error_of, failure_line}
+pub use Rattle.std.proofs.Math.ListN.{get_or}

@@ -1,6 +1,5 @@
 -- The words of a command by their places.
-use Rattle.par2_output.proofs.Common.{◌≡◌, ◌∙◌, ◌-◌, ◌<◌, ◌≤◌, ℕ, zero, suc, List, [], ◌∷◌, map, length, refl, ap, sym, arith, word_at, get_or-map, get_or_past, length-map}
-use Rattle.std.proofs.Math.ListN.{get_or}
+use Rattle.par2_output.proofs.Common.{◌≡◌, ◌∙◌, ◌-◌, ◌<◌, ◌≤◌, ℕ, zero, suc, List, [], ◌∷◌, map, length, refl, ap, sym, arith, word_at, get_or-map, get_or_past, length-map, get_or}
 
 word_at-get_or : (words : List (List ℕ)) (k : ℕ) → word_at words k ≡ get_or words k []
 word_at-get_or [] k = refl

@@ -1,17 +1,5 @@
 -- Scanning bytes from packet to packet.
-use Rattle.par2_packets.proofs.Common.{◌≡◌, ℕ, zero, suc, ◌-◌, ◌+◌, ◌≤◌, ◌<◌, ◌%◌, true, false, leb, eqb, List, [], ◌∷◌, length, drop, refl, sym, ap, subst, ◌∙◌, arith, bytes_eq, leb-true, and_parts, false_from_ne_true, length-take-le, length-drop, drop-drop, bytes_eq-Decides, md5, Packet, bytes_at, magic, claimed_length, accepted, begins_with_packet, first_packet, accepted_after, ◌*◌, ◌/◌, Some, take, map, slice_get, range_with_len, length-map, take-take, drop-take, length-map-range_with_len, get_or-map-range_with_len, w32, from_le_bytes, MainBody, IfscBody, items_at, u32_at, Pair, ext_get_or, get_or-map, get_or_default, ◌≢◌, get_or, w128, AllPairs, AllAdjacentBelow, IsDistinct, all_adjacent_more, IsPermutation-map, IsPermutation-sym}
-use Rattle.std.proofs.Math.Seq.{drop-length}
-use Rattle.std.proofs.lemmas.Option.{slice_get-get_or, slice_get-map}
-use Rattle.std.specs.Option.{option_map}
-use Rattle.std.specs.List.Sorted.{IsNonDecreasingBy, IsStrictlyIncreasing, IsPermutation}
-use Rattle.std.proofs.lemmas.List.Kept.{AllPairs-from_increasing}
-use Rattle.std.proofs.lemmas.Map.Keys.{IsDistinct-IsPermutation}
-use Rattle.std.proofs.lemmas.Map.Made.{AllPairs-from_IsDistinct, IsDistinct-from_AllPairs}
-use Rattle.memchr.specs.Find.{OccursAt, NoneBefore, Nowhere}
-use Rattle.memchr.proofs.lemmas.MatchLemmas.{OccursAt-from_part}
-use Rattle.par2_spec.proofs.WrittenSets.{accepted-none, in_front}
-use Rattle.par2_packets.specs.PacketViews.{main_said, ifsc_said}
-use Rattle.par2_spec.proofs.ListsLaws.{same_either_way}
+use Rattle.par2_packets.proofs.Common.{◌≡◌, ℕ, zero, suc, ◌-◌, ◌+◌, ◌≤◌, ◌<◌, ◌%◌, true, false, leb, eqb, List, [], ◌∷◌, length, drop, refl, sym, ap, subst, ◌∙◌, arith, bytes_eq, leb-true, and_parts, false_from_ne_true, length-take-le, length-drop, drop-drop, bytes_eq-Decides, md5, Packet, bytes_at, magic, claimed_length, accepted, begins_with_packet, first_packet, accepted_after, ◌*◌, ◌/◌, Some, take, map, slice_get, range_with_len, length-map, take-take, drop-take, length-map-range_with_len, get_or-map-range_with_len, w32, from_le_bytes, MainBody, IfscBody, items_at, u32_at, Pair, ext_get_or, get_or-map, get_or_default, ◌≢◌, get_or, w128, AllPairs, AllAdjacentBelow, IsDistinct, all_adjacent_more, IsPermutation-map, IsPermutation-sym, drop-length, slice_get-get_or, slice_get-map, option_map, IsNonDecreasingBy, IsStrictlyIncreasing, IsPermutation, AllPairs-from_increasing, IsDistinct-IsPermutation, AllPairs-from_IsDistinct, IsDistinct-from_AllPairs, OccursAt, NoneBefore, Nowhere, OccursAt-from_part, accepted-none, in_front, main_said, ifsc_said, same_either_way}
 
 -- ---- a packet is at the front
 

@@ -1,9 +1,5 @@
 -- A packet as it is written, part by part.
-use Rattle.par2_packets.proofs.Common.{◌≡◌, ℕ, ◌+◌, List, [], ◌++◌, length, ap, ◌∙◌, append_assoc, arith, length-append, w64, to_le_bytes, md5, magic, type_of, packet, OnOk, Result, Ok, Err, is_ok, if◌then◌else◌, ◌≢◌, zero, suc, ◌*◌, ◌<◌, ◌≤◌, ◌∷◌, take, drop, inl, inr, refl, sym, ap₂, subst, mul-le-mul_right, flat_map, range_with_len, cases_lt, cond_below, cond_above, take-append-le, drop-append-le, take_at, length-take-le, length-drop, flat_map_more, bytes_at, range-append, overwritten, ArePieces, changed_below, ◌-◌, replicate, append-nil, w32, length-replicate, drop-drop, drop-take, digest_input, recovery_packet, digested, digest_put, AreDigested, undigested}
-use Rattle.par2_spec.specs.Prelude.{packet_of}
-use Rattle.par2_spec.specs.declared.Kind.{Kind}
-use Rattle.par2_spec.specs.declared.Kind.TheVariants.{Recovery}
-use Rattle.md5.proofs.StandardFacts.{length-md5}
+use Rattle.par2_packets.proofs.Common.{◌≡◌, ℕ, ◌+◌, List, [], ◌++◌, length, ap, ◌∙◌, append_assoc, arith, length-append, w64, to_le_bytes, md5, magic, type_of, packet, OnOk, Result, Ok, Err, is_ok, if◌then◌else◌, ◌≢◌, zero, suc, ◌*◌, ◌<◌, ◌≤◌, ◌∷◌, take, drop, inl, inr, refl, sym, ap₂, subst, mul-le-mul_right, flat_map, range_with_len, cases_lt, cond_below, cond_above, take-append-le, drop-append-le, take_at, length-take-le, length-drop, flat_map_more, bytes_at, range-append, overwritten, ArePieces, changed_below, ◌-◌, replicate, append-nil, w32, length-replicate, drop-drop, drop-take, digest_input, recovery_packet, digested, digest_put, AreDigested, undigested, packet_of, Kind, Recovery, length-md5}
 
 pub regrouped : (bytes m l d s k a b : List ℕ)
     → (((bytes ++ (m ++ (l ++ []))) ++ (d ++ (s ++ (k ++ [])))) ++ a) ++ b ≡ bytes ++ (m ++ l ++ d ++ (s ++ k ++ (a ++ b)))

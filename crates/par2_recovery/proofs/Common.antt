@@ -8,6 +8,6 @@ pub use Rattle.std.specs.List.{range_with_len}
 pub use Rattle.std.specs.Prelude.{◌/◌}
 pub use Rattle.par2_solve.specs.BufferContents.{AreBlank, byte_lists}
 pub use Rattle.par2_solve.specs.Rebuilding.{AreWritten, AreZeros, output_at}
-pub use Rattle.par2_spec.specs.Prelude.{padded, list_at, lists_of}
+pub use Rattle.par2_spec.specs.Prelude.{padded, list_at, lists_of, recovery}
 pub use Rattle.par2_transform.specs.Rows.{AreWholeBuffers, HaveWords, place_at}
 pub use Rattle.par2_transform.specs.declared.outputs.Place.{Place}

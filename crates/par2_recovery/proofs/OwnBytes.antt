@@ -1,6 +1,5 @@
 -- Recovery slices that are written into buffers of zeros, each into its own.
-use Rattle.par2_recovery.proofs.Common.{◌≡◌, ◌<◌, ◌*◌, ◌+◌, ◌∙◌, ℕ, List, [], refl, sym, ap, arith, length, map, get_or, replicate, ext_get_or, length-replicate, list_at, place_at, ap₂, drop, take, take_all, range_with_len, padded, AreWholeBuffers, HaveWords, Place, AreBlank, output_at, AreWritten, AreZeros, get_or-map-range_with_len, get_or-range_with_len, length-map-range_with_len}
-use Rattle.par2_spec.specs.Prelude.{recovery}
+use Rattle.par2_recovery.proofs.Common.{◌≡◌, ◌<◌, ◌*◌, ◌+◌, ◌∙◌, ℕ, List, [], refl, sym, ap, arith, length, map, get_or, replicate, ext_get_or, length-replicate, list_at, place_at, ap₂, drop, take, take_all, range_with_len, padded, AreWholeBuffers, HaveWords, Place, AreBlank, output_at, AreWritten, AreZeros, get_or-map-range_with_len, get_or-range_with_len, length-map-range_with_len, recovery}
 
 module _ (size words count : ℕ) (places : List Place) (even : size ≡ 2 * words) (whole : AreWholeBuffers count places) where
   -- the output of a buffer is the whole buffer

@@ -1,7 +1,5 @@
 -- A draft of a repair, by the targets that it writes.
-use Rattle.par2_repair.proofs.Common.{◌≡◌, ◌∙◌, ℕ, List, [], ◌∷◌, ◌++◌, length, map, drop, get_or, refl, sym, ap, ap₂, subst, Bool, true, false, not, Ok, append-nil, Option, filter, filter_map, option_map, None, Some, AllByRecursion, cons_option, repair_refusal, list_all, and_from, and_parts, false_from_ne_true, filter_map-append, bytes_eq-Decides, Change, Write, Rename, Remove, are_applicable, effects, Repair, fault_where, Folder, is_among, changes_of, now_at, repair_changes, repair_removals, set_in, refusal, aside, put_aside, rebuilt_targets, par_files, AreFew, candidates, matches, matching, ParSet, Target, RepairFailed, set_in_reads, same_ok, HasItsMd5s, IsDraft, bytes_eq, IsAsDescribed, repair_by, bytes_written, buffers_written, IsTrue}
-use Rattle.md5.specs.Md5.{md5}
-use Rattle.par2_repair.specs.declared.repair.Draft.{Draft}
+use Rattle.par2_repair.proofs.Common.{◌≡◌, ◌∙◌, ℕ, List, [], ◌∷◌, ◌++◌, length, map, drop, get_or, refl, sym, ap, ap₂, subst, Bool, true, false, not, Ok, append-nil, Option, filter, filter_map, option_map, None, Some, AllByRecursion, cons_option, repair_refusal, list_all, and_from, and_parts, false_from_ne_true, filter_map-append, bytes_eq-Decides, Change, Write, Rename, Remove, are_applicable, effects, Repair, fault_where, Folder, is_among, changes_of, now_at, repair_changes, repair_removals, set_in, refusal, aside, put_aside, rebuilt_targets, par_files, AreFew, candidates, matches, matching, ParSet, Target, RepairFailed, set_in_reads, same_ok, HasItsMd5s, IsDraft, bytes_eq, IsAsDescribed, repair_by, bytes_written, buffers_written, IsTrue, md5, Draft}
 use Rattle.par2_repair.proofs.RepairParts.{repair_by_set, repair_refused, repair_leads}
 
 -- ---- what a repair writes

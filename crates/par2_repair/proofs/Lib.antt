@@ -4,3 +4,4 @@ mod ReportValues
 mod RepairParts
 mod Restoring
 mod Steps
+mod Names

@@ -1,17 +1,5 @@
 -- Lists of slices, part by part.
-use Rattle.par2_repair.proofs.Common.{◌≡◌, ◌∙◌, cond, List, ◌∷◌, OnOk, is_ok, Result, Ok, Err, [], ℕ, Bool, true, false, ◌&&◌, map, refl, sym, ap, ap₂, and_parts, eq-eqb, or_right, is_some, is_none, filter, flat_map, zip, filter_map, list_any, Option, None, Some, AllByRecursion, eq_by_cmp, itself, Pair, Target, Window, padded_windows, count_cmp, pairs_sought, arith, ◌+◌, ◌||◌, length, not, false_from_ne_true, option_map, option_and_then, enumerate_from, length-map, bytes_eq, subst, IsDistinct, is_among, slice_cmp, nat_cmp, BTreeMap, AreDistinct, among_some, clash, distinct_from_std, std_from_distinct, same_either_way, Fault, found, rank, Folder, bytes_of, has, ParSet, all_pairs, is_incomplete, matches, lost, survivors, candidates, known, set_in, Complete, Report, TargetReport, incomplete_state, report_of_target, report_of, report_in, set_in_reads, sound_of, present_searched, size_positive, sized_from_counted, targets_found, HoldsMatches, names_without_match, numbers_of_lost, said_of}
-use Rattle.std.proofs.Math.Bool.{and-true}
-use Rattle.std.proofs.lemmas.Bool.{or_left, eqb-true, or_parts}
-use Rattle.std.proofs.lemmas.List.Folds.{list_any-append}
-use Rattle.std.proofs.lemmas.Map.Views.{any-filter_same}
-use Rattle.std.specs.BTreeMap.{get}
-use Rattle.std.specs.Option.{option_map_or}
-use Rattle.std.specs.Prelude.{find}
-use Rattle.par2_sets.proofs.Reading.{same_count}
-use Rattle.par2_spec.proofs.ListsLaws.{same_name, distinct_some, all-both, all-flat_map}
-use Rattle.par2_spec.specs.Prelude.{state_of}
-use Rattle.par2_spec.proofs.SearchLaws.{all_weaker}
-use Rattle.par2_spec.proofs.ReportLaws.{by_target}
+use Rattle.par2_repair.proofs.Common.{◌≡◌, ◌∙◌, cond, List, ◌∷◌, OnOk, is_ok, Result, Ok, Err, [], ℕ, Bool, true, false, ◌&&◌, map, refl, sym, ap, ap₂, and_parts, eq-eqb, or_right, is_some, is_none, filter, flat_map, zip, filter_map, list_any, Option, None, Some, AllByRecursion, eq_by_cmp, itself, Pair, Target, Window, padded_windows, count_cmp, pairs_sought, arith, ◌+◌, ◌||◌, length, not, false_from_ne_true, option_map, option_and_then, enumerate_from, length-map, bytes_eq, subst, IsDistinct, is_among, slice_cmp, nat_cmp, BTreeMap, AreDistinct, among_some, clash, distinct_from_std, std_from_distinct, same_either_way, Fault, found, rank, Folder, bytes_of, has, ParSet, all_pairs, is_incomplete, matches, lost, survivors, candidates, known, set_in, Complete, Report, TargetReport, incomplete_state, report_of_target, report_of, report_in, set_in_reads, sound_of, present_searched, size_positive, sized_from_counted, targets_found, HoldsMatches, names_without_match, numbers_of_lost, said_of, and-true, or_left, eqb-true, or_parts, list_any-append, any-filter_same, get, option_map_or, find, same_count, same_name, distinct_some, all-both, all-flat_map, state_of, all_weaker, by_target}
 use Rattle.par2_repair.proofs.RepairParts.{names_in_pairs}
 
 -- equal lists have equal heads and tails

@@ -1,14 +1,6 @@
 -- Files that are cut out of slices.
-use Rattle.par2_repair.proofs.Common.{◌≡◌, ◌∙◌, ℕ, zero, suc, ◌+◌, ◌-◌, ◌≤◌, List, [], ◌∷◌, ◌++◌, length, take, refl, sym, ap, arith, min, replicate, concat, length-map, length-replicate, length-take, take-replicate, take_all, take_min, length-append, concat-append, padded, append-nil, append_assoc, map, ap₂, Bor, IfSome, None, Some, AllByRecursion, All-head, All-tail, known_of, known_alone, with_lost_slices, Window, AreShort, padded_window, subst, false, not, Option, option_map, false_from_ne_true, fault_where, IsRebuilt, IsRepairable, is_repairable, rank, kept_slices, rebuilt, known, all_pairs, lost, survivors, Folder, ParSet, NotRepairable, recovered_of, IsFaultOf, IsTrueFault, exponents_of, undetermined_fault, AreSurvivorsOf, known_among, AreRebuilt, AreEnough, drop, drop-drop, Bool, cond, filter, zip, is_among, cut_into, Target, ◌||◌, unwrap_or, list_any, BTreeMap, HasAsides, itself, clash, BTreeSet, IsFromIterResult, slice_cmp, nat_list_cmp_total, nat_cmp, eq_by_cmp}
-use Rattle.std.specs.Cmp.{Equal-is, eq_by_cmp_equiv}
-use Rattle.std.proofs.lemmas.Map.Made.{update_all_pairs}
-use Rattle.std.specs.Map.{update_all}
-use Rattle.std.proofs.lemmas.Map.Lookups.{exact_bytes}
-use Rattle.std.proofs.lemmas.Map.Text.{is_eq-slice_cmp}
-use Rattle.par2_spec.specs.Laws.{FilesHaveTheirSize, RebuiltSlicesAgree, TestsSayTheWords}
-use Rattle.par2_spec.specs.Repairs.{files_of_slices, kept_recovery}
-use Rattle.par2_solve.proofs.Rebuilding.{length-filled}
-use Rattle.par2_sets.specs.SetReading.{HoldsOwned}
+use Rattle.par2_repair.proofs.Common.{◌≡◌, ◌∙◌, ℕ, zero, suc, ◌+◌, ◌-◌, ◌≤◌, List, [], ◌∷◌, ◌++◌, length, take, refl, sym, ap, arith, min, replicate, concat, length-map, length-replicate, length-take, take-replicate, take_all, take_min, length-append, concat-append, padded, append-nil, append_assoc, map, ap₂, Bor, IfSome, None, Some, AllByRecursion, All-head, All-tail, known_of, known_alone, with_lost_slices, Window, AreShort, padded_window, subst, false, not, Option, option_map, false_from_ne_true, fault_where, IsRebuilt, IsRepairable, is_repairable, rank, kept_slices, rebuilt, known, all_pairs, lost, survivors, Folder, ParSet, NotRepairable, recovered_of, IsFaultOf, IsTrueFault, exponents_of, undetermined_fault, AreSurvivorsOf, known_among, AreRebuilt, AreEnough, drop, drop-drop, Bool, cond, filter, zip, is_among, cut_into, Target, ◌||◌, unwrap_or, list_any, BTreeMap, HasAsides, itself, clash, BTreeSet, IsFromIterResult, slice_cmp, nat_list_cmp_total, nat_cmp, eq_by_cmp, Equal-is, eq_by_cmp_equiv, update_all_pairs, update_all, exact_bytes, is_eq-slice_cmp, FilesHaveTheirSize, RebuiltSlicesAgree, TestsSayTheWords, kept_recovery, length-filled, HoldsOwned}
+use Rattle.par2_spec.specs.Repairs.{files_of_slices}
 use Rattle.par2_solve.specs.declared.rebuild_slices.RebuildFault.TheVariants as why
 use Rattle.par2_solve.specs.declared.rebuild_slices.Survivors as code
 use Rattle.std.specs.BTreeMap as trees

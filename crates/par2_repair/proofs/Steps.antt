@@ -1,8 +1,6 @@
 -- What `auto` is given, by the function that needs it.
-use Rattle.par2_repair.proofs.Common.{IfOk-weaker, MatchOption-at_some, YieldsList-from_map, YieldsList-from_slice, append-nil, append_assoc, both_ways, bytes_eq-Decides, drop_all, drop_more, eq-eqb, err_again, err_from_is_err_and, err_passed, false_from_ne_true, items_from_collect, length-append, list_all-map, map-append, map-map, ne_eqb, ok_no_err, refused_by, slice_eq-Decides, take_all}
+use Rattle.par2_repair.proofs.Common.{IfOk-weaker, MatchOption-at_some, YieldsList-from_map, YieldsList-from_slice, append-nil, append_assoc, both_ways, bytes_eq-Decides, drop_all, drop_more, eq-eqb, err_again, err_from_is_err_and, err_passed, false_from_ne_true, items_from_collect, length-append, list_all-map, map-append, map-map, ne_eqb, ok_no_err, refused_by, slice_eq-Decides, take_all, position-map, no_names_file}
 use Rattle.par2_repair.proofs.RepairParts.{changes_are, removals_are, base_first, extra_first, none_absent}
-use Rattle.par2_spec.proofs.Places.{position-map}
-use Rattle.par2_spec.proofs.MovesLaws.{no_names_file}
 use Rattle.par2_repair.proofs.Restoring.{lost_fault, no_fault}
 use Rattle.par2_repair.proofs.ReportValues.{refused_in}
 

@@ -1,18 +1,5 @@
 -- Lists whose items must all be there, and lists that a function makes.
-use Rattle.par2_sets.proofs.Common.{◌≡◌, ℕ, zero, suc, ◌+◌, ◌<◌, List, [], ◌∷◌, ◌++◌, Option, Some, None, length, map, take, get_or, refl, sym, ap, ◌∙◌, arith, slice_get, option_map, option_and_then, map_more, all_some, Err, Result, ok_or, IsErrAnd, err_from_is_err_and, Fault, err_again, Bool, true, false, flat_map, cond, not, filter, bytes_eq, Folder, bytes_of, accepted, packets_with, flat_map_more, ◌&&◌, is_par_name, is_par_file, is_among, list_any, list_all, names, own_files, target_names, ParSet, ◌==◌, T, subst, nat_lt, filter_map, if◌then◌else◌, Bor, Less, nat_cmp, is_lt, eq_by_cmp, nat_cmp_total, AllByRecursion, IsStrictlyIncreasing, IsStrictlySortedBy, lookup, keys_of, FinMap, is_sorted, same_map, same_entries_map, entries_sorted, nat_cmp-IsAntisymmetric, entries-from_sorted, get-from_sorted, get-from_entries, Packet, RecoveryBody, read_recovery, recovery_of, set_exponents, set_recovery, are_own, slice_cmp, lookup-map_values, Ok, is_some, MainBody, DescBody, Target, is_slice_size, main_of, are_in_profile, read_set, set_of, entries, set_view, set_packets, description_of, target_of, NoDescription, NoChecksums, set_from_packets, ap₂, map-id, find, IsTotalOrder, IsEquivalence, eq_by_cmp_equiv, same_either_way, count_cmp, HasFirsts, is_eq-slice_cmp, YieldsList}
-use Rattle.std.proofs.Common.{append-nil}
-use Rattle.std.proofs.lemmas.Option.{slice_get_within, get_or_from_slice_get}
-use Rattle.std.proofs.lemmas.List.{map-append}
-use Rattle.std.proofs.lemmas.List.Elements.{filter-append, filter_more}
-use Rattle.std.proofs.Math.Facts.{yes_and}
-use Rattle.std.proofs.lemmas.Map.Keys.{sorted_from_strictly_increasing, IsStrictlyIncreasing-from_sorted}
-use Rattle.std.specs.FinMap.Entries.{below_all}
-use Rattle.std.specs.BTreeMap.{BTreeMap, get, Updates}
-use Rattle.std.specs.declared.cmp.Ordering.{Ordering}
-use Rattle.std.specs.Iterator.{Drains}
-use Rattle.std.specs.Option.{option_or}
-use Rattle.std.proofs.iter.Yields.{gives_Drains}
-use Rattle.par2_spec.specs.Prelude.{par_files}
+use Rattle.par2_sets.proofs.Common.{◌≡◌, ℕ, zero, suc, ◌+◌, ◌<◌, List, [], ◌∷◌, ◌++◌, Option, Some, None, length, map, take, get_or, refl, sym, ap, ◌∙◌, arith, slice_get, option_map, option_and_then, map_more, all_some, Err, Result, ok_or, IsErrAnd, err_from_is_err_and, Fault, err_again, Bool, true, false, flat_map, cond, not, filter, bytes_eq, Folder, bytes_of, accepted, packets_with, flat_map_more, ◌&&◌, is_par_name, is_par_file, is_among, list_any, list_all, names, own_files, target_names, ParSet, ◌==◌, T, subst, nat_lt, filter_map, if◌then◌else◌, Bor, Less, nat_cmp, is_lt, eq_by_cmp, nat_cmp_total, AllByRecursion, IsStrictlyIncreasing, IsStrictlySortedBy, lookup, keys_of, FinMap, is_sorted, same_map, same_entries_map, entries_sorted, nat_cmp-IsAntisymmetric, entries-from_sorted, get-from_sorted, get-from_entries, Packet, RecoveryBody, read_recovery, recovery_of, set_exponents, set_recovery, are_own, slice_cmp, lookup-map_values, Ok, is_some, MainBody, DescBody, Target, is_slice_size, main_of, are_in_profile, read_set, set_of, entries, set_view, set_packets, description_of, target_of, NoDescription, NoChecksums, set_from_packets, ap₂, map-id, find, IsTotalOrder, IsEquivalence, eq_by_cmp_equiv, same_either_way, count_cmp, HasFirsts, is_eq-slice_cmp, YieldsList, append-nil, slice_get_within, get_or_from_slice_get, map-append, filter-append, filter_more, yes_and, sorted_from_strictly_increasing, IsStrictlyIncreasing-from_sorted, below_all, BTreeMap, get, Updates, Ordering, Drains, option_or, gives_Drains, par_files}
 use Rattle.std.specs.FinMap as map_of
 
 all_some-push : {A : Type 0} (items : List (Option A)) (last : Option A)

@@ -1,10 +1,6 @@
 -- The CRC-32 of bytes in groups of sixteen, by tables, after zeros, and of a window that slides; the padding of MD5s.
-use Rattle.par2_slices.proofs.Common.{◌≡◌, ℕ, zero, suc, ◌+◌, ◌*◌, ◌^◌, ◌<◌, ◌%◌, ◌/◌, List, [], ◌∷◌, ◌++◌, length, take, drop, get_or, sym, ap, ap₂, ◌∙◌, arith, bit_xor, concat, All, from_le_bytes, to_le_bytes, w32, All-from_get_or, All-get_or, All-drop, All-take, length-drop, length-take-le, take_more, take_all, take-append-drop, append-nil, nil_from_length, xor_assoc, xor_zero_r, xor_comm, concat-append, crc_byte, crc_steps, crc_steps-add, crc_steps-split, crc_steps-xor, crc_byte-steps, fold-append, joined, steps, ◌-◌, replicate, append_assoc, replicate-append-replicate, take-replicate, padded, map, refl, range_with_len, get_or-map-range_with_len, subst, pow-suc, mul_assoc, mod-pow-add, pow-add, pow_pos, mod_below, shl_below, shr-shr, crc_step, crc32, crc_steps-swap, crc_steps-shifted, fold-zeros, crc32-slide, after_slide, leaving, ◌≤◌, inl, inr, cases_lt, length-take, get_or_append_left, get_or-append_right, get_or-take, get_or-drop, get_or-replicate, get_or_past, get_or_at, drop_more, length_push, ext_get_or, window}
-use Rattle.std.specs.Simd.{first_chunks}
-use Rattle.std.proofs.Math.Seq.{take-add}
+use Rattle.par2_slices.proofs.Common.{◌≡◌, ℕ, zero, suc, ◌+◌, ◌*◌, ◌^◌, ◌<◌, ◌%◌, ◌/◌, List, [], ◌∷◌, ◌++◌, length, take, drop, get_or, sym, ap, ap₂, ◌∙◌, arith, bit_xor, concat, All, from_le_bytes, to_le_bytes, w32, All-from_get_or, All-get_or, All-drop, All-take, length-drop, length-take-le, take_more, take_all, take-append-drop, append-nil, nil_from_length, xor_assoc, xor_zero_r, xor_comm, concat-append, crc_byte, crc_steps, crc_steps-add, crc_steps-split, crc_steps-xor, crc_byte-steps, fold-append, joined, steps, ◌-◌, replicate, append_assoc, replicate-append-replicate, take-replicate, padded, map, refl, range_with_len, get_or-map-range_with_len, subst, pow-suc, mul_assoc, mod-pow-add, pow-add, pow_pos, mod_below, shl_below, shr-shr, crc_step, crc32, crc_steps-swap, crc_steps-shifted, fold-zeros, crc32-slide, after_slide, leaving, ◌≤◌, inl, inr, cases_lt, length-take, get_or_append_left, get_or-append_right, get_or-take, get_or-drop, get_or-replicate, get_or_past, get_or_at, drop_more, length_push, ext_get_or, window, first_chunks, take-add, TABLES, length-window}
 use Rattle.std.specs.Prelude.{fold}
-use Rattle.par2_slices.specs.declared.checksum.TheConstants.{TABLES}
-use Rattle.par2_spec.proofs.FilesLaws.{length-window}
 
 -- the lowest byte by its own table, the bits above it by eight steps fewer
 byte_more : (m n w sum value : ℕ) → n ≡ m + 1 → sum ≡ steps (8 * m) (w / 256) → value ≡ steps (8 * n) (w % 256) → bit_xor sum value ≡ steps (8 * n) w

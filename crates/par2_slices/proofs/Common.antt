@@ -10,11 +10,11 @@ pub use Rattle.std.proofs.lemmas.List.Elements.{All-drop, All-filter, All-from_g
 pub use Rattle.std.proofs.lemmas.List.Folds.{concat-append, find-append, list_all_at, sum_by-replicate, sum_by-zero}
 pub use Rattle.std.proofs.lemmas.List.FromFn.{get_or-map-range_with_len, get_or-range_with_len, length-map-range_with_len, length-range_with_len, map-range_with_len_more}
 pub use Rattle.std.proofs.lemmas.List.Sorted.{All-permutation, Contains-permutation, IsNonDecreasingBy-from_sort_by_key}
-pub use Rattle.std.proofs.lemmas.List.Sums.{get_or-le-sum_by, count_by-le-length, sum_by-set}
+pub use Rattle.std.proofs.lemmas.List.Sums.{get_or-le-sum_by, count_by-le-length, sum_by-set, list_all-from_AllPass}
 pub use Rattle.std.proofs.lemmas.Nat.{mod-pow-add, mod_below, pow-add, pow_pos, shl_below, shr-shr, shr_below, xor_comm}
 pub use Rattle.std.proofs.lemmas.Slice.Eq.{bytes_eq-Decides}
 pub use Rattle.std.specs.Borrow.{Bor}
-pub use Rattle.std.specs.Int.{bit_at, bit_not, from_le_bytes, to_le_bytes, w32, w8}
+pub use Rattle.std.specs.Int.{bit_at, bit_not, from_le_bytes, to_le_bytes, w32, w8, Width}
 pub use Rattle.std.specs.Int.Bits.{xor_assoc, xor_zero_r}
 pub use Rattle.std.specs.List.{All, IsDistinct, concat, count_by, list_all, range_with_len}
 pub use Rattle.std.specs.List.Sorted.{IsNonDecreasingBy, IsPermutation}
@@ -34,8 +34,16 @@ pub use Rattle.par2_slices.specs.declared.search.Scan.{Scan}
 pub use Rattle.par2_slices.specs.declared.wanted.PairPlace.{PairPlace}
 pub use Rattle.par2_spec.proofs.ChecksumLaws.{crc32-slide, crc_byte-steps, crc_steps-add, crc_steps-shifted, crc_steps-split, crc_steps-swap, crc_steps-xor, fold-append, fold-zeros, joined}
 pub use Rattle.par2_spec.proofs.ListsLaws.{map-cond, range-append, none_from, or_nothing}
-pub use Rattle.par2_spec.specs.Prelude.{Pair, crc_byte, crc_step, crc_steps, pair_of, is_intact, matched, padded, slice_at, slice_count, first_match, found, is_match, window, windows}
+pub use Rattle.par2_spec.specs.Prelude.{Pair, crc_byte, crc_step, crc_steps, pair_of, is_intact, matched, padded, slice_at, slice_count, first_match, found, is_match, window, windows, Target, Folder, bytes_of, is_among}
 unfoldable pub use Rattle.par2_spec.specs.Prelude.{crc32}
+pub use Rattle.std.specs.Simd.{first_chunks}
+pub use Rattle.std.proofs.Math.Seq.{take-add}
+pub use Rattle.par2_slices.specs.declared.checksum.TheConstants.{TABLES}
+pub use Rattle.par2_spec.proofs.FilesLaws.{length-window}
+pub use Rattle.std.proofs.Math.Bool.{or-false}
+pub use Rattle.std.proofs.lemmas.Map.Keys.{apart_from_distinct}
+pub use Rattle.std.proofs.lemmas.Nat.Bits.{bit_at_or, bit_at_set_same, bit_at_set_other, bit_at_clear_same, bit_at_clear_other}
+pub use mir.Val.{bits}
 
 -- what reads past the end of lists give
 abbrev pub no_pair : Pair

@@ -1,6 +1,5 @@
 -- Slices against the pairs of their numbers.
-use Rattle.par2_slices.proofs.Common.{◌≡◌, ◌≢◌, ℕ, zero, suc, ◌+◌, ◌<◌, ◌≤◌, min, Bool, true, false, ◌&&◌, List, [], ◌∷◌, length, map, take, Decides, refl, sym, ap, subst, ◌∙◌, arith, ◌==◌, zip, list_all, range_with_len, bytes_eq, div_ceil_times, and_parts, eq-eqb, eqb-true, false_from_ne_true, false≢true, same_from_decides, get_or-take, length-take, bytes_eq-Decides, md5, Pair, crc32, is_intact, slice_at, slice_count, is_match, no_pair, pair_at, HaveCrc32s, HaveMd5s}
-use Rattle.par2_spec.specs.Prelude.{Target}
+use Rattle.par2_slices.proofs.Common.{◌≡◌, ◌≢◌, ℕ, zero, suc, ◌+◌, ◌<◌, ◌≤◌, min, Bool, true, false, ◌&&◌, List, [], ◌∷◌, length, map, take, Decides, refl, sym, ap, subst, ◌∙◌, arith, ◌==◌, zip, list_all, range_with_len, bytes_eq, div_ceil_times, and_parts, eq-eqb, eqb-true, false_from_ne_true, false≢true, same_from_decides, get_or-take, length-take, bytes_eq-Decides, md5, Pair, crc32, is_intact, slice_at, slice_count, is_match, no_pair, pair_at, HaveCrc32s, HaveMd5s, Target}
 
 match_from : (pair : Pair) (slice : List ℕ) → crc32 slice ≡ pair.1 → md5 slice ≡ pair.0 → is_match pair slice ≡ true
 match_from pair slice crc digest = grind (arith, eq-eqb, bytes_eq-Decides)

@@ -5,3 +5,4 @@ pub mod Searching
 pub mod Comparisons
 pub mod FoundWindows
 pub mod Matches
+mod Names

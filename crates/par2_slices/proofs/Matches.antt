@@ -1,8 +1,5 @@
 -- Matches by the numbers of buffers, and by their names; the checksums of slices one after the other.
-use Rattle.par2_slices.proofs.Common.{◌≡◌, ℕ, zero, suc, ◌+◌, ◌<◌, Bool, true, false, not, ◌||◌, cond, List, [], ◌∷◌, ◌++◌, length, map, drop, get_or, refl, sym, ap, subst, ◌∙◌, inl, inr, arith, Option, Some, None, IfSome, filter, find, ◌==◌, option_map, option_to_list, range_with_len, All, IsDistinct, bytes_eq, cases_lt, eq-eqb, eqb-true, false≢true, same_from_decides, append_assoc, drop_more, ext_get_or, get_or-map, length-map, All-filter, All-tail, get_or-map-range_with_len, get_or-range_with_len, length-map-range_with_len, length-range_with_len, bytes_eq-Decides, is_intact, matched, map-cond, Describe, Describes, NumbersAreNames, first_intact, matched_from, matched_numbers, listed_at, without_number, ◌-◌, ◌*◌, ◌≤◌, min, take, ap₂, zero-add, mul-le-mul_right, map-range_with_len_more, append-nil, length-take, length-drop, map-append, md5, Pair, pair_of, slice_at, window, first_pairs}
-use Rattle.std.proofs.Math.Bool.{or-false}
-use Rattle.std.proofs.lemmas.Map.Keys.{apart_from_distinct}
-use Rattle.par2_spec.specs.Prelude.{Folder, bytes_of, is_among}
+use Rattle.par2_slices.proofs.Common.{◌≡◌, ℕ, zero, suc, ◌+◌, ◌<◌, Bool, true, false, not, ◌||◌, cond, List, [], ◌∷◌, ◌++◌, length, map, drop, get_or, refl, sym, ap, subst, ◌∙◌, inl, inr, arith, Option, Some, None, IfSome, filter, find, ◌==◌, option_map, option_to_list, range_with_len, All, IsDistinct, bytes_eq, cases_lt, eq-eqb, eqb-true, false≢true, same_from_decides, append_assoc, drop_more, ext_get_or, get_or-map, length-map, All-filter, All-tail, get_or-map-range_with_len, get_or-range_with_len, length-map-range_with_len, length-range_with_len, bytes_eq-Decides, is_intact, matched, map-cond, Describe, Describes, NumbersAreNames, first_intact, matched_from, matched_numbers, listed_at, without_number, ◌-◌, ◌*◌, ◌≤◌, min, take, ap₂, zero-add, mul-le-mul_right, map-range_with_len_more, append-nil, length-take, length-drop, map-append, md5, Pair, pair_of, slice_at, window, first_pairs, or-false, apart_from_distinct, Folder, bytes_of, is_among}
 use Rattle.par2_slices.specs.declared.matching.Target.{Target}
 use Rattle.par2_slices.proofs.FoundWindows.{out_of}
 use Rattle.par2_spec.specs.Sets as sets

@@ -1,11 +1,8 @@
 -- The filter as a set of groups of checksums, what a search has found before an offset, and the windows of four
 -- stretches that it passes over.
-use Rattle.par2_slices.proofs.Common.{All-push, below_more, length-set, ◌≡◌, ◌≢◌, ℕ, zero, suc, ◌+◌, ◌-◌, ◌*◌, ◌^◌, ◌<◌, ◌%◌, ◌/◌, List, length, get_or, set, replicate, refl, subst, sym, ap, ◌∙◌, get_or-set_same, get_or-set_other, arith, inl, inr, ◌⊎◌, bit_and, bit_or, w8, bit_at, bit_not, cases_eq, get_or_read, shr_below, suc-ne-zero, Groups, IsLong, Includes, shr-shr, ◌≤◌, Bool, true, false, cond, [], ◌∷◌, ◌++◌, map, drop, ◌==◌, Option, Some, None, find, option_map, count_by, list_all, range_with_len, is_none, option_or, bytes_eq, and_from, and_left, and_right, cases_lt, eq-eqb, ne_eqb, length-replicate, length-map, get_or-map, ext_get_or, get_or_append_left, get_or_at, get_or-le-sum_by, get_or_push, length_push, drop_more, find-append, sum_by-zero, sum_by-replicate, list_all_at, md5, Pair, is_match, first_match, range-append, or_nothing, AreAlike, no_pair, IsOfOpenPair, no_place, no_candidate, pair_at, pair_place_at, candidate_at, answer_at, answer_below, position_in, first_position, first_position_from, HoldsGroup, is_awaited, after_window, has_checksums, IsWindow, IsTally, IsScannedTo, after_candidates, first_below, Candidate, Position, PairPlace, sum_by-set, Scan, window_of, crc_of, earlier_answer, AreAnswered, HaveAnswers, Bor, and_parts, false_from_ne_true, none_from, eqb-true, All-from_get_or, IsWhole, get_or-drop, after_slide, AreCrcs, AreCandidateRows, IsNoted, row_at, Row, no_row}
-use Rattle.std.specs.Int.{Width}
-use Rattle.std.proofs.lemmas.Nat.Bits.{bit_at_or, bit_at_set_same, bit_at_set_other, bit_at_clear_same, bit_at_clear_other}
+use Rattle.par2_slices.proofs.Common.{All-push, below_more, length-set, ◌≡◌, ◌≢◌, ℕ, zero, suc, ◌+◌, ◌-◌, ◌*◌, ◌^◌, ◌<◌, ◌%◌, ◌/◌, List, length, get_or, set, replicate, refl, subst, sym, ap, ◌∙◌, get_or-set_same, get_or-set_other, arith, inl, inr, ◌⊎◌, bit_and, bit_or, w8, bit_at, bit_not, cases_eq, get_or_read, shr_below, suc-ne-zero, Groups, IsLong, Includes, shr-shr, ◌≤◌, Bool, true, false, cond, [], ◌∷◌, ◌++◌, map, drop, ◌==◌, Option, Some, None, find, option_map, count_by, list_all, range_with_len, is_none, option_or, bytes_eq, and_from, and_left, and_right, cases_lt, eq-eqb, ne_eqb, length-replicate, length-map, get_or-map, ext_get_or, get_or_append_left, get_or_at, get_or-le-sum_by, get_or_push, length_push, drop_more, find-append, sum_by-zero, sum_by-replicate, list_all_at, md5, Pair, is_match, first_match, range-append, or_nothing, AreAlike, no_pair, IsOfOpenPair, no_place, no_candidate, pair_at, pair_place_at, candidate_at, answer_at, answer_below, position_in, first_position, first_position_from, HoldsGroup, is_awaited, after_window, has_checksums, IsWindow, IsTally, IsScannedTo, after_candidates, first_below, Candidate, Position, PairPlace, sum_by-set, Scan, window_of, crc_of, earlier_answer, AreAnswered, HaveAnswers, Bor, and_parts, false_from_ne_true, none_from, eqb-true, All-from_get_or, IsWhole, get_or-drop, after_slide, AreCrcs, AreCandidateRows, IsNoted, row_at, Row, no_row, Width, bit_at_or, bit_at_set_same, bit_at_set_other, bit_at_clear_same, bit_at_clear_other, list_all-from_AllPass, bits}
 use Rattle.std.specs.Prelude.{◌&&◌}
-use Rattle.std.proofs.lemmas.List.Sums.{fold-append, list_all-from_AllPass}
-use mir.Val.{bits}
+use Rattle.std.proofs.lemmas.List.Sums.{fold-append}
 use Rattle.par2_slices.proofs.Checksums.{slid_window}
 
 pub within : (crc shift : ℕ) → crc < 2 ^ 32 → shift < 32 → crc / 2 ^ shift < 2 ^ (32 - shift)

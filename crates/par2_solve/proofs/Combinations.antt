@@ -1,12 +1,5 @@
 -- Sums of products: from added products to recovery slices, sums of sums, and the loops that add products.
-use Rattle.par2_solve.proofs.Common.{constant, pow, length-constant_powers, constant_powers, ℕ, zero, suc, ◌+◌, ◌-◌, ◌*◌, ◌%◌, ◌<◌, ◌≤◌, ◌≡◌, refl, sym, ap, ap₂, ◌∙◌, subst, arith, List, [], ◌∷◌, ◌++◌, length, get_or, map, replicate, Vec, Global, zero-add, Bor, range_with_len, get_or-map, length-map, get_or_past, get_or-map-range_with_len, length-map-range_with_len, length-range_with_len, mul, coefficient, padded, word, dot, coefficients, combination, recovery, all_at, product-lt, field_sum, list_at, lists_of, field_sum_same, field_sum-lt, dot_sum, product_at, coefficients_are, combination_words, word-lt, AreByteLists, recovered, zeros_read, byte_lists, bit_xor, product_linear_left, product_assoc, zero-product, field_sum_none, field_sum_xor, field_sum_scaled, GivesElements, inl, inr, cases_lt, xor_assoc, xor_zero_r, product-zero, AddsSource, Adds, products, by_either, take, drop, within-in, cases_eq, get_or_push, get_or_append_left}
-use borrow.Rule.Slice.PartMut.{put_mid}
-use Rattle.par2_gf16.specs.Tables.{AddsTo}
-use Rattle.par2_gf16.specs.Words.{AddsEach, word_of}
-use Rattle.par2_gf16.specs.declared.vectors.WordVector.{WordVector}
-use Rattle.par2_gf16.proofs.Words.{word_drop, words_kept}
-use Rattle.par2_spec.specs.Prelude.{OneChanged}
-use Rattle.par2_transform.proofs.Additions.{adds_columns, within-below}
+use Rattle.par2_solve.proofs.Common.{constant, pow, length-constant_powers, constant_powers, ℕ, zero, suc, ◌+◌, ◌-◌, ◌*◌, ◌%◌, ◌<◌, ◌≤◌, ◌≡◌, refl, sym, ap, ap₂, ◌∙◌, subst, arith, List, [], ◌∷◌, ◌++◌, length, get_or, map, replicate, Vec, Global, zero-add, Bor, range_with_len, get_or-map, length-map, get_or_past, get_or-map-range_with_len, length-map-range_with_len, length-range_with_len, mul, coefficient, padded, word, dot, coefficients, combination, recovery, all_at, product-lt, field_sum, list_at, lists_of, field_sum_same, field_sum-lt, dot_sum, product_at, coefficients_are, combination_words, word-lt, AreByteLists, recovered, zeros_read, byte_lists, bit_xor, product_linear_left, product_assoc, zero-product, field_sum_none, field_sum_xor, field_sum_scaled, GivesElements, inl, inr, cases_lt, xor_assoc, xor_zero_r, product-zero, AddsSource, Adds, products, by_either, take, drop, within-in, cases_eq, get_or_push, get_or_append_left, put_mid, AddsTo, AddsEach, word_of, WordVector, word_drop, words_kept, OneChanged, adds_columns, within-below}
 
 -- ---- padding
 

@@ -1,11 +1,6 @@
 -- The inverse of the kept exponents' matrix, the lost slices by their syndromes block by block, and recovery slices in outputs.
-use Rattle.par2_solve.proofs.Common.{by_either, inl, inr, ℕ, ◌+◌, ◌*◌, ◌/◌, ◌%◌, ◌<◌, ◌≤◌, ◌≡◌, ◌≢◌, refl, sym, ap, ◌∙◌, arith, cond, List, [], length, get_or, map, subst, cases_eq, eq-eqb, ne_eqb, length-map, mul, coefficient, word, dot, coefficients, field_sum, list_at, GivesElements, zero-product, product_comm, product-one, all_at, all_from, all_get, field_sum_same, field_sum_one, coefficients_are, dot-lt, words_are, bytes_at, combination_words, word-lt, Equations, IsTheSolution, AreByteRows, IsUnit, IsEliminated, IsInverseMatrix, identity, AreSolutionBuffers, combination, IsVector, AllByRecursion, ◌^◌, ◌-◌, ap₂, ◌++◌, length-append, bit_xor, drop, Bor, cases_lt, get_or-take, get_or-drop, get_or-map, get_or_append_left, get_or-append_right, length-replicate, length-take-le, length-drop, recovered, AddsToEach, chunk, syndrome, AreByteLists, AreProducts, AreSolved, AreSums, products, xor_zero_l, AreExtended, byte_lists, AreBlank, zero-add, take, range_with_len, get_or_past, get_or-map-range_with_len, padded, recovery, within, place_at, AddsAt, AreApart, LieWithin, adds_more, adds_same, within-in, within_joined, within_same, length-group, adds_to_group}
+use Rattle.par2_solve.proofs.Common.{by_either, inl, inr, ℕ, ◌+◌, ◌*◌, ◌/◌, ◌%◌, ◌<◌, ◌≤◌, ◌≡◌, ◌≢◌, refl, sym, ap, ◌∙◌, arith, cond, List, [], length, get_or, map, subst, cases_eq, eq-eqb, ne_eqb, length-map, mul, coefficient, word, dot, coefficients, field_sum, list_at, GivesElements, zero-product, product_comm, product-one, all_at, all_from, all_get, field_sum_same, field_sum_one, coefficients_are, dot-lt, words_are, bytes_at, combination_words, word-lt, Equations, IsTheSolution, AreByteRows, IsUnit, IsEliminated, IsInverseMatrix, identity, AreSolutionBuffers, combination, IsVector, AllByRecursion, ◌^◌, ◌-◌, ap₂, ◌++◌, length-append, bit_xor, drop, Bor, cases_lt, get_or-take, get_or-drop, get_or-map, get_or_append_left, get_or-append_right, length-replicate, length-take-le, length-drop, recovered, AddsToEach, chunk, syndrome, AreByteLists, AreProducts, AreSolved, AreSums, products, xor_zero_l, AreExtended, byte_lists, AreBlank, zero-add, take, range_with_len, get_or_past, get_or-map-range_with_len, padded, recovery, within, place_at, AddsAt, AreApart, LieWithin, adds_more, adds_same, within-in, within_joined, within_same, length-group, adds_to_group, words_at, Place, first_word, AreWritten, AreZeros, output_at, AreWithin, picked}
 use Rattle.par2_solve.proofs.Combinations.{all_coefficients, combined, coefficients-lt, dot_at, blank_word, length-byte_lists, recovered_by_words}
-use Rattle.par2_transform.specs.Chirps.{words_at}
-use Rattle.par2_transform.specs.declared.outputs.Place.{Place}
-use Rattle.par2_transform.proofs.Additions.{first_word}
-use Rattle.par2_solve.specs.Rebuilding.{AreWritten, AreZeros, output_at}
-use Rattle.par2_solve.specs.BufferContents.{AreWithin, picked}
 use Rattle.par2_matrix.specs.Systems as systems
 
 -- ---- the identity

@@ -1,12 +1,5 @@
 -- The tests over all vectors as statements, the exponents that are kept, and the loop that offers their equations.
-use Rattle.par2_solve.proofs.Common.{by_either, ◌≡◌, ◌≢◌, ℕ, ◌^◌, List, [], ◌∷◌, T, true, false, ◌&&◌, not, eqb→eq, and_yes, yes_and, false_from_ne_true, eq-eqb, list_all, AllByRecursion, dot, IsVector, kills, is_independent, some_list, zero, suc, ◌+◌, ◌<◌, ◌≤◌, ◌↔◌, inl, inr, refl, sym, ap, ap₂, ◌∙◌, subst, arith, Bool, cond, ltb, ◌++◌, length, get_or, map, bit_xor, take, filter, Result, Ok, cases_eq, lt-ltb, le-ltb, take_more, map-append, filter_more, AllPairs-from_increasing, IsStrictlyIncreasing, mul, coefficients, smaller, kept, product-zero, all-append, all-parts, Equations, OnlyZeroIsKilled, Kept, Dependent, IsDependent, length-append, ◌*◌, eqb, ◌||◌, append-nil, list_any, eqb-true, cases_lt, get_or_append_left, get_or_at, take_all, combination, Kills, kept_slices, CutDown, IsIndependent, Solves, AreSolutionBuffers, IsUnit, filter-map, IsEliminated, all-map, all_unmap}
-use Rattle.std.proofs.Math.Dec.{T_not, not_T}
-use Rattle.std.specs.declared.alloc.AllocError.{AllocError}
-use Rattle.std.proofs.lemmas.Map.Views.{any-filter_same}
-use Rattle.std.proofs.Math.Bool.{and-true, or-true}
-use Rattle.par2_spec.proofs.ListsLaws.{by_true, is_true}
-use Rattle.par2_matrix.specs.declared.system.Offer.{Offer}
-use Rattle.par2_spec.proofs.SearchLaws.{all_weaker}
+use Rattle.par2_solve.proofs.Common.{by_either, ◌≡◌, ◌≢◌, ℕ, ◌^◌, List, [], ◌∷◌, T, true, false, ◌&&◌, not, eqb→eq, and_yes, yes_and, false_from_ne_true, eq-eqb, list_all, AllByRecursion, dot, IsVector, kills, is_independent, some_list, zero, suc, ◌+◌, ◌<◌, ◌≤◌, ◌↔◌, inl, inr, refl, sym, ap, ap₂, ◌∙◌, subst, arith, Bool, cond, ltb, ◌++◌, length, get_or, map, bit_xor, take, filter, Result, Ok, cases_eq, lt-ltb, le-ltb, take_more, map-append, filter_more, AllPairs-from_increasing, IsStrictlyIncreasing, mul, coefficients, smaller, kept, product-zero, all-append, all-parts, Equations, OnlyZeroIsKilled, Kept, Dependent, IsDependent, length-append, ◌*◌, eqb, ◌||◌, append-nil, list_any, eqb-true, cases_lt, get_or_append_left, get_or_at, take_all, combination, Kills, kept_slices, CutDown, IsIndependent, Solves, AreSolutionBuffers, IsUnit, filter-map, IsEliminated, all-map, all_unmap, T_not, not_T, AllocError, any-filter_same, and-true, or-true, by_true, is_true, Offer, all_weaker}
 use Rattle.par2_matrix.specs.Systems as systems
 
 -- the vector is in the null space of all rows

@@ -1,19 +1,6 @@
 -- A list of all slices, known and lost ones, and the equations of the lost ones; what survives, and the lost slices that solve them.
-use Rattle.par2_solve.proofs.Common.{ℕ, zero, suc, ◌+◌, ◌-◌, ◌*◌, ◌%◌, ◌<◌, ◌≤◌, ◌≡◌, refl, sym, ap, ap₂, ◌∙◌, arith, List, [], ◌∷◌, length, length-append, replicate, get_or, map, bit_xor, length-replicate, length-map, Bor, Option, Some, None, is_none, filter, range_with_len, enumerate_from, AllByRecursion, AllZip, xor_assoc, xor_zero_l, xor_comm, product-zero, mul, coefficient, padded, word, coefficients, combination, dot, recovery, lost, xor_off, coefficients_are, dot-lt, words_are, combination_words, all-append, all_from, recovered, known_of, with_lost_slices, lost_from, known_alone, bytes_or_none, AreByteLists, ◌≢◌, subst, Bool, cond, eqb, eq-eqb, ne_eqb, get_or-map, Result, IfErr, AllPairs-from_increasing, all_unmap, list_at, CanRebuild, known_among, recovered_of, exponents_of, IsRepairable, Agrees, kept_slices, all_get, all-filter, agreeing_are_one, AreRebuilt, syndrome, AreSolved}
-use Rattle.std.specs.Option.{ForSome}
-use Rattle.std.proofs.lemmas.Option.{none-some, same_Some}
-use Rattle.std.proofs.lemmas.Result.{IfErr-weaker}
-use Rattle.par2_spec.proofs.FilesLaws.{bytes-zeros}
+use Rattle.par2_solve.proofs.Common.{ℕ, zero, suc, ◌+◌, ◌-◌, ◌*◌, ◌%◌, ◌<◌, ◌≤◌, ◌≡◌, refl, sym, ap, ap₂, ◌∙◌, arith, List, [], ◌∷◌, length, length-append, replicate, get_or, map, bit_xor, length-replicate, length-map, Bor, Option, Some, None, is_none, filter, range_with_len, enumerate_from, AllByRecursion, AllZip, xor_assoc, xor_zero_l, xor_comm, product-zero, mul, coefficient, padded, word, coefficients, combination, dot, recovery, lost, xor_off, coefficients_are, dot-lt, words_are, combination_words, all-append, all_from, recovered, known_of, with_lost_slices, lost_from, known_alone, bytes_or_none, AreByteLists, ◌≢◌, subst, Bool, cond, eqb, eq-eqb, ne_eqb, get_or-map, Result, IfErr, AllPairs-from_increasing, all_unmap, list_at, CanRebuild, known_among, recovered_of, exponents_of, IsRepairable, Agrees, kept_slices, all_get, all-filter, agreeing_are_one, AreRebuilt, syndrome, AreSolved, ForSome, none-some, same_Some, IfErr-weaker, bytes-zeros, all_weaker, by_test, all-both, TwoListsAgree, AnotherAlwaysAgrees, IsFaultOf, TwoAlwaysAgree, RebuildFault, NotRepairable, Memory, Inverts, IsInverseOf, Inverse, Rows, Located, Filled}
 use Rattle.par2_solve.proofs.Combinations.{word-padded, recovered_dot}
-use Rattle.par2_spec.proofs.SearchLaws.{all_weaker}
-use Rattle.par2_spec.proofs.ListsLaws.{by_test, all-both}
-use Rattle.par2_spec.specs.Prelude.{TwoListsAgree}
-use Rattle.par2_solve.specs.Rebuilding.{AnotherAlwaysAgrees, IsFaultOf, TwoAlwaysAgree}
-use Rattle.par2_solve.specs.declared.rebuild_slices.RebuildFault.{RebuildFault}
-use Rattle.par2_solve.specs.declared.rebuild_slices.RebuildFault.TheVariants.{NotRepairable, Memory}
-use Rattle.par2_solve.specs.BufferContents.{Inverts, IsInverseOf}
-use Rattle.par2_solve.specs.declared.inverse.Inverse.{Inverse}
-use Rattle.par2_solve.specs.declared.inverse.Inverse.TheVariants.{Rows, Located, Filled}
 use Rattle.par2_spec.specs.Rank as ranks
 use Rattle.par2_solve.specs.declared.rebuild_slices.Survivors as code
 

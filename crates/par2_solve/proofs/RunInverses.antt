@@ -1,16 +1,7 @@
 -- Exponents that are close and runs of them, polynomials coefficient by coefficient, and the inverse for a run by Forney's factors.
-use Rattle.par2_solve.proofs.Common.{by_either, All, AllPairs-from_increasing, AreClose, AreSlices, Contains, Contains-get_or, HasRun, IsStrictlyIncreasing, IsTrue, List, [], all_from, ap, arith, cases_eq, cases_lt, drop, eqb, eqb-false, false, false≢true, get_or, get_or-drop, get_or-range_with_len, get_or-take, get_or_default, inl, inr, length, length-drop, length-range_with_len, length-take-le, lt-ltb, ltb, ltb-true, range_with_len, recursion_from_All, refl, subst, suc, sym, take, zero, ℕ, ◌+◌, ◌-◌, ◌<◌, ◌↔◌, ◌∙◌, ◌∷◌, ◌≡◌, ◌≤◌, append_assoc, ◌*◌, ◌^◌, set, ◌++◌, bit_xor, ext_get_or, drop_more, get_or-set_same, get_or-set_other, drop_all, mul, times, times_root, value, plus, with_roots, quotient, length-quotient, quotient_elements, product-zero, product_assoc, product_linear_right, xor_assoc, xor_zero_l, ◌≢◌, ap₂, map, cond, eq-eqb, ne_eqb, length-map, get_or-map, constant, pow, coefficient, list_at, field_sum, ArePoints, power-lt, no_zero_divisor, product_comm, product-one, all_get, all-each, all_at, value-lt, value_times, with_roots_elements, length-with_roots, times_elements, quotient_others, quotient_itself, field_sum_same, field_sum_head, field_sum_one, dot_sum, close_kept, coefficients, IsInverseMatrix, identity, constant-lt, constant-nonzero, constant-injective, get_or-map-range_with_len, length-map-range_with_len, field_sum_none, field_sum_scaled, zero-product, word, AreProducts, AreSums, products, get_or_append_left, get_or_push, length_push}
-use Rattle.std.specs.Int.Bits.{xor_self}
-use Rattle.std.proofs.lemmas.Bool.Decides.{Decides-eqb}
-use Rattle.std.proofs.lemmas.Map.Made.{IsDistinct-from_AllPairs}
-use Rattle.par2_solve.specs.declared.exponents.Lost.{Lost}
-use Rattle.par2_spec.specs.Prelude.{AreElements}
-use Rattle.par2_spec.proofs.ListsLaws.{all-drop}
-use Rattle.par2_spec.proofs.ExistLaws.{IsSolved, solved}
+use Rattle.par2_solve.proofs.Common.{by_either, All, AllPairs-from_increasing, AreClose, AreSlices, Contains, Contains-get_or, HasRun, IsStrictlyIncreasing, IsTrue, List, [], all_from, ap, arith, cases_eq, cases_lt, drop, eqb, eqb-false, false, false≢true, get_or, get_or-drop, get_or-range_with_len, get_or-take, get_or_default, inl, inr, length, length-drop, length-range_with_len, length-take-le, lt-ltb, ltb, ltb-true, range_with_len, recursion_from_All, refl, subst, suc, sym, take, zero, ℕ, ◌+◌, ◌-◌, ◌<◌, ◌↔◌, ◌∙◌, ◌∷◌, ◌≡◌, ◌≤◌, append_assoc, ◌*◌, ◌^◌, set, ◌++◌, bit_xor, ext_get_or, drop_more, get_or-set_same, get_or-set_other, drop_all, mul, times, times_root, value, plus, with_roots, quotient, length-quotient, quotient_elements, product-zero, product_assoc, product_linear_right, xor_assoc, xor_zero_l, ◌≢◌, ap₂, map, cond, eq-eqb, ne_eqb, length-map, get_or-map, constant, pow, coefficient, list_at, field_sum, ArePoints, power-lt, no_zero_divisor, product_comm, product-one, all_get, all-each, all_at, value-lt, value_times, with_roots_elements, length-with_roots, times_elements, quotient_others, quotient_itself, field_sum_same, field_sum_head, field_sum_one, dot_sum, close_kept, coefficients, IsInverseMatrix, identity, constant-lt, constant-nonzero, constant-injective, get_or-map-range_with_len, length-map-range_with_len, field_sum_none, field_sum_scaled, zero-product, word, AreProducts, AreSums, products, get_or_append_left, get_or_push, length_push, xor_self, Decides-eqb, IsDistinct-from_AllPairs, Lost, AreElements, all-drop, IsSolved, solved, AreFactors, locator, quotient_coefficient}
 use Rattle.par2_solve.proofs.Combinations.{coefficients-lt, combined, each_more}
 use Rattle.par2_solve.proofs.Inverting.{identity-lt, sum_of_row}
-use Rattle.par2_solve.specs.BufferContents.{AreFactors, locator}
-use Rattle.par2_transform.specs.Locators.{quotient_coefficient}
 use Rattle.par2_transform.specs.Polynomials as evaluations
 
 -- numbers of slices that rise

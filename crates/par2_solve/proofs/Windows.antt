@@ -1,28 +1,8 @@
 -- The holes between exponents: their equations, the syndromes that solve these, the kept exponents, and the numbers of lost slices.
-use Rattle.par2_solve.proofs.Common.{zero-add, by_either, rules, ℕ, zero, suc, ◌+◌, ◌-◌, ◌^◌, ◌<◌, ◌≤◌, ◌≡◌, refl, sym, ap, ap₂, ◌∙◌, ◌↔◌, subst, arith, Bool, true, false, cond, not, inl, inr, List, [], ◌∷◌, ◌++◌, length, get_or, map, filter, take, append-nil, bit_xor, xor_comm, xor_assoc, xor_zero_l, xor_zero_r, AllByRecursion, Contains, range_with_len, IsStrictlyIncreasing, Result, Ok, cases_lt, cases_eq, eqb-true, lt-ltb, le-ltb, false_from_ne_true, length-map, get_or-map, get_or-range_with_len, get_or-map-range_with_len, length-map-range_with_len, length-range_with_len, map-range_with_len_more, Contains-get_or, mul, constant, pow, coefficient, coefficients, dot, field_sum, dot_sum, product_at, dot-lt, coefficients_are, field_sum_same, field_sum_none, product-zero, zero-product, IsVector, IsRepairable, Kills, AreSlices, value, with_roots_elements, length-with_roots, all_at, all_get, all_from, all_unmap, all-each, run_determines, rank, Equations, CutDown, OnlyZeroIsKilled, AreSolutionBuffers, combination, ◌*◌, AreByteRows, IsTheSolution, false≢true, get_or-take, length-reverse, get_or_past, get_or-reverse, length-take-le, product_comm, product-one, field_sum_head, GivesElements, slice_index, identity, list_at, lists_of, word, word-lt, words_are, AreByteLists, AreProducts, AreSums, AreSolved, products, Option, Some, None, ext_get_or, kept, is_independent, lost_from}
-use Rattle.std.specs.Result.{IsOk, MatchResult, is_ok}
-use Rattle.std.specs.Prelude.{Err, nat_eq, reverse}
-use Rattle.std.proofs.lemmas.List.{map-id, take-take}
-use Rattle.std.proofs.lemmas.List.Elements.{filter-append}
-use Rattle.std.proofs.lemmas.Cmp.{nat_eq_equiv}
-use Rattle.std.proofs.lemmas.List.Kept.{IsStrictlyIncreasing-filter}
-use Rattle.std.proofs.lemmas.Bool.{not-false, not-true}
-use Rattle.std.proofs.lemmas.Map.Views.{Contains-from_any, any-filter_same, list_any-from_Contains}
-use Rattle.std.specs.List.{list_any}
-use Rattle.std.specs.Int.Bits.{xor_self}
-use Rattle.std.proofs.lemmas.List.Sums.{count_by-le-length, length-filter}
-use Rattle.par2_spec.proofs.ListsLaws.{of_contained, all-passing, all-take, contained_first, contained_later}
-use Rattle.par2_spec.proofs.FullRank.{full-iff}
-use Rattle.par2_spec.proofs.UniqueLaws.{with_roots_zero, with_roots_monic}
-use Rattle.par2_spec.proofs.FieldLaws.{range_rises, xor_same}
-use Rattle.par2_solve.specs.BufferContents.{AreHoleEquations, IsUnit, OnlyZeroFits, holes, is_hole, locator, shifted, shifted_at, span, AreHoleInverse, IsFillingFor, IsOriginAt, falling, from_origin, known_window, right_side}
+use Rattle.par2_solve.proofs.Common.{zero-add, by_either, rules, ℕ, zero, suc, ◌+◌, ◌-◌, ◌^◌, ◌<◌, ◌≤◌, ◌≡◌, refl, sym, ap, ap₂, ◌∙◌, ◌↔◌, subst, arith, Bool, true, false, cond, not, inl, inr, List, [], ◌∷◌, ◌++◌, length, get_or, map, filter, take, append-nil, bit_xor, xor_comm, xor_assoc, xor_zero_l, xor_zero_r, AllByRecursion, Contains, range_with_len, IsStrictlyIncreasing, Result, Ok, cases_lt, cases_eq, eqb-true, lt-ltb, le-ltb, false_from_ne_true, length-map, get_or-map, get_or-range_with_len, get_or-map-range_with_len, length-map-range_with_len, length-range_with_len, map-range_with_len_more, Contains-get_or, mul, constant, pow, coefficient, coefficients, dot, field_sum, dot_sum, product_at, dot-lt, coefficients_are, field_sum_same, field_sum_none, product-zero, zero-product, IsVector, IsRepairable, Kills, AreSlices, value, with_roots_elements, length-with_roots, all_at, all_get, all_from, all_unmap, all-each, run_determines, rank, Equations, CutDown, OnlyZeroIsKilled, AreSolutionBuffers, combination, ◌*◌, AreByteRows, IsTheSolution, false≢true, get_or-take, length-reverse, get_or_past, get_or-reverse, length-take-le, product_comm, product-one, field_sum_head, GivesElements, slice_index, identity, list_at, lists_of, word, word-lt, words_are, AreByteLists, AreProducts, AreSums, AreSolved, products, Option, Some, None, ext_get_or, kept, is_independent, lost_from, IsOk, MatchResult, is_ok, Err, nat_eq, reverse, map-id, take-take, filter-append, nat_eq_equiv, IsStrictlyIncreasing-filter, not-false, not-true, Contains-from_any, any-filter_same, list_any-from_Contains, list_any, xor_self, count_by-le-length, length-filter, of_contained, all-passing, all-take, contained_first, contained_later, full-iff, with_roots_zero, with_roots_monic, range_rises, xor_same, AreHoleEquations, IsUnit, OnlyZeroFits, holes, is_hole, locator, shifted, shifted_at, span, AreHoleInverse, IsFillingFor, IsOriginAt, falling, from_origin, known_window, right_side, words_at, Filling, Origin, Exponent, Hole}
 use Rattle.par2_solve.proofs.Combinations.{coefficients-lt, combined}
 use Rattle.par2_solve.proofs.RunInverses.{constants-lt, constant_at, run_sum_is, placed, range_has, rises_to_the_end, rises_between, rises_differ, take_rises}
 use Rattle.par2_solve.proofs.Inverting.{row_vector, row_read, unit_product, sum_of_row}
-use Rattle.par2_transform.specs.Chirps.{words_at}
-use Rattle.par2_solve.specs.declared.holes.Filling.{Filling}
-use Rattle.par2_solve.specs.declared.holes.Origin.{Origin}
-use Rattle.par2_solve.specs.declared.holes.Origin.TheVariants.{Exponent, Hole}
 use Rattle.par2_solve.proofs.Ranks.{is_kept, is_kept_at}
 
 -- ---- a polynomial times a power of z

@@ -1,6 +1,5 @@
 -- The outputs of a create have distinct names, so its changes apply and lead to its folder.
-use Rattle.par2_spec.proofs.Common.{◌≡◌, ℕ, zero, suc, ◌+◌, ◌%◌, ◌<◌, ◌≤◌, List, [], ◌∷◌, ◌++◌, length, map, refl, sym, ap, ◌∙◌, subst, true, false, Bool, ◌||◌, arith, length-append, drop, append_assoc, codes, nat_lt, if◌then◌else◌, range_with_len, one-le-pow, pow-le-pow_right, drop-append_seam, length-take, map-map, and_from, or_from, or_left, or_right, is_among, Folder, File, has, Write, Replace, is_applicable, are_applicable, volume_name, volumes_before, volume_numbers, volume_size, five_digits, stem, volumes, CreateArgs, outputs_of, create_changes, not, Option, Some, None, Result, Ok, Err, position, list_all, and_parts, not-false, position_from-zero, Fault, NoSuchFile, Change, effects, ParSet, set_of, candidates, after_repair, after_repair_and_purge, after_purge, par_files, Command, Create, Verify, Repair, Purge, by_set, set_in, after, repair_changes, repair_removals, purge_changes, AreFewFor, LeadsToAfter, changes_of}
-use Rattle.std.proofs.Math.Pow.{pow-lt}
+use Rattle.par2_spec.proofs.Common.{◌≡◌, ℕ, zero, suc, ◌+◌, ◌%◌, ◌<◌, ◌≤◌, List, [], ◌∷◌, ◌++◌, length, map, refl, sym, ap, ◌∙◌, subst, true, false, Bool, ◌||◌, arith, length-append, drop, append_assoc, codes, nat_lt, if◌then◌else◌, range_with_len, one-le-pow, pow-le-pow_right, drop-append_seam, length-take, map-map, and_from, or_from, or_left, or_right, is_among, Folder, File, has, Write, Replace, is_applicable, are_applicable, volume_name, volumes_before, volume_numbers, volume_size, five_digits, stem, volumes, CreateArgs, outputs_of, create_changes, not, Option, Some, None, Result, Ok, Err, position, list_all, and_parts, not-false, position_from-zero, Fault, NoSuchFile, Change, effects, ParSet, set_of, candidates, after_repair, after_repair_and_purge, after_purge, par_files, Command, Create, Verify, Repair, Purge, by_set, set_in, after, repair_changes, repair_removals, purge_changes, AreFewFor, LeadsToAfter, changes_of, pow-lt}
 use Rattle.par2_spec.proofs.Basics.{AreDistinct, itself, other_name, not_first, distinct_some, put_in, create_leads, removals_lead, fits_of, no_place, test_from_all, all_weaker, ok_no_err}
 use Rattle.par2_spec.proofs.MovesLaws.{has_put}
 use Rattle.par2_spec.proofs.SearchLaws.{FitsRepair}

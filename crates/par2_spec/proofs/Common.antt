@@ -84,7 +84,7 @@ unfoldable pub use Rattle.par2_spec.specs.Sessions.{changes_requested, folders_a
 pub use Rattle.par2_spec.specs.Sets.{IsSound, MadeFrom, ParSet, Target, all_pairs, all_some, are_in_profile, description_of, is_slice_size, main_of, other_par_names, packets_with, pairs_of, recovery_of, target_names, target_of, target_of_file, unless, ◌>>=◌}
 unfoldable pub use Rattle.par2_spec.specs.Sets.{read_set, set_of}
 pub use Rattle.par2_spec.specs.Slices.{slice_at, slice_count, slices, word}
-pub use Rattle.par2_spec.specs.Sums.{OneChanged, list_at, lists_of, row_sum}
+pub use Rattle.par2_spec.specs.Sums.{OneChanged, list_at, lists_of, row_sum, GivesElements}
 unfoldable pub use Rattle.par2_spec.specs.Sums.{field_sum}
 pub use Rattle.par2_spec.specs.Volumes.{FileRecord, IsFileRecord, all_slices, creator_bytes, desc_bytes, five_digits, id_number, ifsc_bytes, insert_by_id, main_bytes, main_id, packet_of, padded_4, pair_bytes, recovery_bytes, recovery_packets, stem, volume_name, volume_numbers, volume_size, volumes_before}
 unfoldable pub use Rattle.par2_spec.specs.Volumes.{in_id_order, index_packets, record_of, volumes}
@@ -92,3 +92,25 @@ pub use Rattle.par2_spec.specs.Windows.{found, is_match, window, windows}
 pub use Rattle.par2_spec.specs.declared.Fault.{Fault}
 pub use Rattle.par2_spec.specs.declared.Fault.TheVariants.{BadBase, BadCount, BadSet, BadSliceSize, Memory, NameTooLong, NoChecksums, NoDescription, NoInput, NoMain, NoSuchFile, NotRepairable, RepairFailed}
 pub use Rattle.par2_spec.specs.declared.Kind.{Kind}
+pub use Rattle.std.proofs.Math.Pow.{pow-lt}
+pub use Rattle.std.proofs.lemmas.Fmt.{decimal_by_steps, decimal_injective, decimal_nonempty, IsAscii-decimal}
+pub use Rattle.std.proofs.lemmas.Str.Ascii.{IsAscii-cons}
+pub use Rattle.std.proofs.lemmas.Map.Steps.{length-le_from_distinct_below}
+pub use Rattle.par2_spec.specs.History.{History, Refusal, NothingToUndo, NothingToRedo, after_command, unless_refused, after_undo, after_redo, Execution, Ended, Accepted, Passed, folders, IsChanging}
+unfoldable pub use Rattle.par2_spec.specs.History.{history_after}
+pub use Rattle.par2_spec.specs.Runs.{AreSlices, AreClose, HasRun}
+pub use Rattle.std.proofs.Math.Logic.{⊎_map}
+pub use Rattle.std.proofs.lemmas.List.Sorted.{All-permutation, IsPermutation-sym, IsPermutation-refl, IsPermutation-trans, IsPermutation-cons, IsPermutation-swap, IsPermutation-map}
+pub use Rattle.std.proofs.lemmas.Map.Views.{Contains-from_any, list_any-from_Contains}
+pub use Rattle.par2_spec.specs.declared.Version.{Version}
+pub use Rattle.par2_spec.specs.Journals.{Journal, HalfwayPart, IsHalfwayPart, Spells, IsJournal}
+pub use Rattle.par2_spec.specs.declared.JournalFault.{JournalFault}
+pub use Rattle.par2_spec.specs.declared.JournalFault.TheVariants.{JournalInvalid}
+pub use Rattle.std.specs.BTreeSet.{BTreeSet, contains}
+pub use Rattle.std.specs.BTreeMap.{is_at}
+pub use Rattle.par2_spec.specs.declared.Verdict.{Verdict}
+pub use Rattle.par2_spec.specs.declared.Verdict.TheVariants.{Complete, Repairable}
+pub use Rattle.std.specs.Io.KnownBytes.{Appends}
+pub use Rattle.std.proofs.KnownBytes.{Appends-trans}
+pub use Rattle.par2_spec.specs.Writing.{Writer, TookAll, TookPart, Wrote}
+pub use Rattle.par2_spec.specs.declared.Kind.TheVariants.{Main, Ifsc, Recovery, FileDesc, Creator}

@@ -1,8 +1,6 @@
 -- Functions that respect the exclusive or, and induction over the bits of a number.
-use Rattle.par2_spec.proofs.Common.{ℕ, zero, suc, ◌+◌, ◌*◌, ◌/◌, ◌%◌, ◌^◌, ◌<◌, ◌≡◌, ◌⊎◌, sym, ap, ap₂, ◌∙◌, subst, Bool, true, eqb, ◌&&◌, arith, add-zero, zero-mul, one-mul, pow_pos, pow-suc, mod-lt, div-lt_iff_lt-mul, mul_comm, div-add-mod, xor_comm, xor_block, bit_at_xor, eqb-true, and_parts, cases_eq, bit_at, xor_assoc, xor_self, xor_zero_r, xor_shifted, bit_xor, refl, ltb, xor_lt, ltb-true, modulus, product, remainder, mul, eqb-false, ne_eqb, or_cases, false≢true, not-true, ◌≤◌, inl, inr, false, List, [], ◌∷◌, length, ◌-◌, not, suc-add, zero-add, list_any, AllByRecursion, IsDistinct, pow, get_or, cases_lt, filter, range_with_len, length-range_with_len, get_or-range_with_len, constant_powers, constant, IsStrictlyIncreasing, AllPairs-from_increasing, IsStrictlyIncreasing-filter, All-filter, All-from_get_or, All-get_or, filter_passes, length-filter, count_by, is_coprime, ◌≢◌, xor_zero_l, word, row_sum, field_sum, dot}
-use Rattle.std.proofs.lemmas.Map.Steps.{length-le_from_distinct_below}
+use Rattle.par2_spec.proofs.Common.{ℕ, zero, suc, ◌+◌, ◌*◌, ◌/◌, ◌%◌, ◌^◌, ◌<◌, ◌≡◌, ◌⊎◌, sym, ap, ap₂, ◌∙◌, subst, Bool, true, eqb, ◌&&◌, arith, add-zero, zero-mul, one-mul, pow_pos, pow-suc, mod-lt, div-lt_iff_lt-mul, mul_comm, div-add-mod, xor_comm, xor_block, bit_at_xor, eqb-true, and_parts, cases_eq, bit_at, xor_assoc, xor_self, xor_zero_r, xor_shifted, bit_xor, refl, ltb, xor_lt, ltb-true, modulus, product, remainder, mul, eqb-false, ne_eqb, or_cases, false≢true, not-true, ◌≤◌, inl, inr, false, List, [], ◌∷◌, length, ◌-◌, not, suc-add, zero-add, list_any, AllByRecursion, IsDistinct, pow, get_or, cases_lt, filter, range_with_len, length-range_with_len, get_or-range_with_len, constant_powers, constant, IsStrictlyIncreasing, AllPairs-from_increasing, IsStrictlyIncreasing-filter, All-filter, All-from_get_or, All-get_or, filter_passes, length-filter, count_by, is_coprime, ◌≢◌, xor_zero_l, word, row_sum, field_sum, dot, length-le_from_distinct_below, GivesElements}
 use Rattle.par2_spec.proofs.ListsLaws.{by_either}
-use Rattle.par2_spec.specs.Sums.{GivesElements}
 
 -- f maps an exclusive or to the exclusive or of its values
 pub record IsLinear (f : ℕ → ℕ) : Type 0 where

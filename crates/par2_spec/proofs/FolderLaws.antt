@@ -1,7 +1,6 @@
 -- A change and its inverse; changes in order and their way back; the same for a folder in memory.
-use Rattle.par2_spec.proofs.Common.{◌≡◌, ℕ, ◌+◌, ◌<◌, ◌≤◌, List, [], ◌∷◌, ◌++◌, refl, sym, ap, subst, ◌∙◌, cond, true, Bool, not, ◌&&◌, IsTrue, append_assoc, append-nil, arith, unwrap_or, Some, None, Option, is_some, is_none, nat_lt, same_map, slice_cmp-IsAntisymmetric, nat_cmp-IsAntisymmetric, get-insert, get-remove, get_tied, nat_cmp, eq_by_cmp, eq_by_cmp_equiv, slice_cmp, nat_list_cmp_total, nat_tests, and_parts, and_from, Folder, has, bytes_of, Change, Write, Replace, Rename, Remove, FolderState, state_after, places_taken, effect, inverse, is_applicable, effects, way_back, are_applicable, change_refusal, takes_all, state_after_all, common_steps, not-true, map, if◌then◌else◌, get-retain_keys, Equal, is_eq-slice_cmp, is_among, File, without, laid_over, CreateArgs, outputs_of, create_changes, zero, suc, ◌-◌, drop, length, Result, Ok, Err, replicate, sum_by, is_ok, AllByRecursion, false≢true, sum_by-cons, drop-nil, Fault, Command, Action, Do, Undo, Redo, refusal, changes_of, LeadsToAfter, LeadsToAfterRequested, Session, first_entry, changes_unless, others, session_unless, KeptSession, session_of_kept, CanWalk, OnlyGrew, folders_along, history_of, changes_requested, session_with, session_after, walks, kept_done, kept_undone, kept_redone, is_valid, leads}
+use Rattle.par2_spec.proofs.Common.{◌≡◌, ℕ, ◌+◌, ◌<◌, ◌≤◌, List, [], ◌∷◌, ◌++◌, refl, sym, ap, subst, ◌∙◌, cond, true, Bool, not, ◌&&◌, IsTrue, append_assoc, append-nil, arith, unwrap_or, Some, None, Option, is_some, is_none, nat_lt, same_map, slice_cmp-IsAntisymmetric, nat_cmp-IsAntisymmetric, get-insert, get-remove, get_tied, nat_cmp, eq_by_cmp, eq_by_cmp_equiv, slice_cmp, nat_list_cmp_total, nat_tests, and_parts, and_from, Folder, has, bytes_of, Change, Write, Replace, Rename, Remove, FolderState, state_after, places_taken, effect, inverse, is_applicable, effects, way_back, are_applicable, change_refusal, takes_all, state_after_all, common_steps, not-true, map, if◌then◌else◌, get-retain_keys, Equal, is_eq-slice_cmp, is_among, File, without, laid_over, CreateArgs, outputs_of, create_changes, zero, suc, ◌-◌, drop, length, Result, Ok, Err, replicate, sum_by, is_ok, AllByRecursion, false≢true, sum_by-cons, drop-nil, Fault, Command, Action, Do, Undo, Redo, refusal, changes_of, LeadsToAfter, LeadsToAfterRequested, Session, first_entry, changes_unless, others, session_unless, KeptSession, session_of_kept, CanWalk, OnlyGrew, folders_along, history_of, changes_requested, session_with, session_after, walks, kept_done, kept_undone, kept_redone, is_valid, leads, History, Refusal, NothingToUndo, NothingToRedo, after_command, unless_refused, after_undo, after_redo, Execution, Ended, Accepted, Passed, folders, IsChanging, history_after}
 use Rattle.par2_spec.proofs.ListsLaws.{none_from}
-use Rattle.par2_spec.specs.History.{History, Refusal, NothingToUndo, NothingToRedo, after_command, unless_refused, after_undo, after_redo, Execution, Ended, Accepted, Passed, folders, IsChanging, history_after}
 use Rattle.std.specs.FinMap as map_of
 
 -- ---- the file of a name in a changed folder

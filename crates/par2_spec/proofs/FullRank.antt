@@ -1,10 +1,9 @@
 -- The rank is at most the number of lost slices, and equal to it exactly if these are determined.
-use Rattle.par2_spec.proofs.Common.{◌≡◌, ℕ, zero, suc, ◌+◌, ◌*◌, ◌/◌, ◌%◌, ◌^◌, ◌<◌, ◌≤◌, List, [], ◌∷◌, length, map, drop, pow-add, refl, sym, ap, ap₂, ◌∙◌, subst, cond, false, eqb, inl, inr, arith, ◌↔◌, replicate, slice_index, xor_self, AllByRecursion, IsDistinct, IsStrictlyIncreasing, pow_below, Decides-eqb, cases_lt, eq-eqb, length-map, AllPairs-from_increasing, IsStrictlyIncreasing-filter, IsDistinct-from_AllPairs, coefficients, dot, kept, rank, IsVector, Kills, IsRepairable, AreElements, bit_xor, ◌≢◌, ◌-◌, get_or, true, Bool, filter, Contains, range_with_len, ne_eqb, get_or-map, Contains-get_or, length-range_with_len, get_or-range_with_len, mul, constant, pow, coefficient, smaller, is_independent, IsKept, ArePoints, value}
+use Rattle.par2_spec.proofs.Common.{◌≡◌, ℕ, zero, suc, ◌+◌, ◌*◌, ◌/◌, ◌%◌, ◌^◌, ◌<◌, ◌≤◌, List, [], ◌∷◌, length, map, drop, pow-add, refl, sym, ap, ap₂, ◌∙◌, subst, cond, false, eqb, inl, inr, arith, ◌↔◌, replicate, slice_index, xor_self, AllByRecursion, IsDistinct, IsStrictlyIncreasing, pow_below, Decides-eqb, cases_lt, eq-eqb, length-map, AllPairs-from_increasing, IsStrictlyIncreasing-filter, IsDistinct-from_AllPairs, coefficients, dot, kept, rank, IsVector, Kills, IsRepairable, AreElements, bit_xor, ◌≢◌, ◌-◌, get_or, true, Bool, filter, Contains, range_with_len, ne_eqb, get_or-map, Contains-get_or, length-range_with_len, get_or-range_with_len, mul, constant, pow, coefficient, smaller, is_independent, IsKept, ArePoints, value, AreSlices, AreClose, HasRun}
 use Rattle.par2_spec.proofs.Basics.{onto_from_injective, product-zero, all-each, all-both, of_contained, all_weaker, all-filter, xor_middle, product_linear_left, product_linear_right, product_assoc, product_comm, product-one, zero-product, no_zero_divisor, power-lt, constant-lt, constant-nonzero, constant-injective, dot_sum, field_sum_one, product_at, all_from, all_get, independent-iff, by_either, by_test}
 use Rattle.par2_spec.proofs.UniqueLaws.{sums, dot-sums, dot-lt, coefficients_are, sums-elements, no_difference, all_from_contains, kept_kill_all, Interpolates, value-lt, some_polynomial}
 use Rattle.par2_spec.proofs.ExistLaws.{zeros_are, length-sums, solved}
 use Rattle.par2_spec.proofs.FieldLaws.{range_rises}
-use Rattle.par2_spec.specs.Runs.{AreSlices, AreClose, HasRun}
 
 -- ---- vectors as numbers: there are 2 ^ (16 * n) of n elements
 

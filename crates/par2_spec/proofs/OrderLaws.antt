@@ -1,6 +1,5 @@
 -- The files sorted by File ID, and only one list of them is strictly increasing.
-use Rattle.par2_spec.proofs.Common.{◌≡◌, ◌≢◌, ℕ, suc, ◌+◌, ◌<◌, ◌≤◌, List, [], ◌∷◌, length, map, refl, sym, ap₂, subst, false, Bool, eqb, arith, nat_le, IsPermutation, slice_index, w128, from_le_bytes, AllByRecursion, IsDistinct, IsStrictlyIncreasing, leb-true, leb-false, eqb-true, eq-eqb, false_from_ne_true, All-from_recursion, recursion_from_All, IsDistinct-IsPermutation, Folder, File, bytes_of, FileRecord, id_number, insert_by_id, record_of, in_id_order, files_of}
-use Rattle.std.proofs.lemmas.List.Sorted.{All-permutation, IsPermutation-sym, IsPermutation-refl, IsPermutation-trans, IsPermutation-cons, IsPermutation-swap, IsPermutation-map}
+use Rattle.par2_spec.proofs.Common.{◌≡◌, ◌≢◌, ℕ, suc, ◌+◌, ◌<◌, ◌≤◌, List, [], ◌∷◌, length, map, refl, sym, ap₂, subst, false, Bool, eqb, arith, nat_le, IsPermutation, slice_index, w128, from_le_bytes, AllByRecursion, IsDistinct, IsStrictlyIncreasing, leb-true, leb-false, eqb-true, eq-eqb, false_from_ne_true, All-from_recursion, recursion_from_All, IsDistinct-IsPermutation, Folder, File, bytes_of, FileRecord, id_number, insert_by_id, record_of, in_id_order, files_of, All-permutation, IsPermutation-sym, IsPermutation-refl, IsPermutation-trans, IsPermutation-cons, IsPermutation-swap, IsPermutation-map}
 use Rattle.par2_spec.proofs.Basics.{clash, all-map, all-both, all_weaker, same_tests, all-each, by_test}
 
 -- ---- increasing lists

@@ -1,6 +1,5 @@
 -- The matches of a set.
-use Rattle.par2_spec.proofs.Common.{◌≡◌, ℕ, List, [], ◌∷◌, map, refl, sym, ap, ◌∙◌, subst, true, false, Bool, not, ◌||◌, arith, filter, filter_map, find, zip, Option, Some, None, option_to_list, is_some, cons_option, bytes_eq, and_parts, or_cases, or_left, or_right, false_from_ne_true, false≢true, same_Some, is_among, Folder, bytes_of, ParSet, Target, is_intact, matched, incomplete, matches, map-map, ◌^◌, ◌<◌, length, ◌&&◌, IsTrue, ◌↔◌, ◌==◌, unwrap_or, nat_eq, list_all, list_any, AllByRecursion, AllZip, Contains, ForSome, and_from, eqb-true, eq-eqb, ltb-true, lt-ltb, not_from_false, true_from_ne_false, both_ways, not-true, AllZip-long, nat_eq_equiv, coefficients, dot, kills, is_zero, is_repairable, kept, smaller, Kills, IsRepairable, IsKept, IsVector, Agrees, is_as_known, kept_slices, IsRebuilt, is_independent, is_solvable, agrees, lost, survivors, all_lists, all_buffers, all_below, rebuilt, zero, suc, ◌+◌, ◌*◌, ◌≤◌, cond, flat_map, is_none, div_ceil, range_with_len, enumerate_from, map-append, not-false, div_ceil_times, mul-le-mul_right, add-mul, Pair, window, windows, is_match, found, slice_count, has, is_incomplete, intact_names, known, names_without_match, ◌++◌, length-append, ◌-◌, take, drop, length-drop, ◌%◌, min, nat_lt, sum_by, nat_le, option_map, option_and_then, Result, Ok, ok_or, if◌then◌else◌, concat, entries-insert, len-entries, len-empty, nat_cmp-IsAntisymmetric, nat_cmp_total, put, by_order, nat_cmp, Ordering, zero-div, zero-mod, length-map, nil_from_length, length-take-le, sum_by-cons, list_all-map, recursion_from_All, All-contains_itself, leb-true, Fault, NoMain, NoDescription, NoChecksums, BadSet, is_name, distinct, Packet, accepted, MainBody, DescBody, RecoveryBody, read_recovery, unless, all_some, is_slice_size, packets_with, main_of, description_of, pairs_of, target_of, are_in_profile, recovery_of, other_par_names, IsSound, read_set, set_of, candidates, AreFew, cut_into, FilesHaveTheirSize, ◌>>=◌, IsDistinct, target_names}
-use Rattle.std.proofs.lemmas.Map.Views.{Contains-from_any, list_any-from_Contains}
+use Rattle.par2_spec.proofs.Common.{◌≡◌, ℕ, List, [], ◌∷◌, map, refl, sym, ap, ◌∙◌, subst, true, false, Bool, not, ◌||◌, arith, filter, filter_map, find, zip, Option, Some, None, option_to_list, is_some, cons_option, bytes_eq, and_parts, or_cases, or_left, or_right, false_from_ne_true, false≢true, same_Some, is_among, Folder, bytes_of, ParSet, Target, is_intact, matched, incomplete, matches, map-map, ◌^◌, ◌<◌, length, ◌&&◌, IsTrue, ◌↔◌, ◌==◌, unwrap_or, nat_eq, list_all, list_any, AllByRecursion, AllZip, Contains, ForSome, and_from, eqb-true, eq-eqb, ltb-true, lt-ltb, not_from_false, true_from_ne_false, both_ways, not-true, AllZip-long, nat_eq_equiv, coefficients, dot, kills, is_zero, is_repairable, kept, smaller, Kills, IsRepairable, IsKept, IsVector, Agrees, is_as_known, kept_slices, IsRebuilt, is_independent, is_solvable, agrees, lost, survivors, all_lists, all_buffers, all_below, rebuilt, zero, suc, ◌+◌, ◌*◌, ◌≤◌, cond, flat_map, is_none, div_ceil, range_with_len, enumerate_from, map-append, not-false, div_ceil_times, mul-le-mul_right, add-mul, Pair, window, windows, is_match, found, slice_count, has, is_incomplete, intact_names, known, names_without_match, ◌++◌, length-append, ◌-◌, take, drop, length-drop, ◌%◌, min, nat_lt, sum_by, nat_le, option_map, option_and_then, Result, Ok, ok_or, if◌then◌else◌, concat, entries-insert, len-entries, len-empty, nat_cmp-IsAntisymmetric, nat_cmp_total, put, by_order, nat_cmp, Ordering, zero-div, zero-mod, length-map, nil_from_length, length-take-le, sum_by-cons, list_all-map, recursion_from_All, All-contains_itself, leb-true, Fault, NoMain, NoDescription, NoChecksums, BadSet, is_name, distinct, Packet, accepted, MainBody, DescBody, RecoveryBody, read_recovery, unless, all_some, is_slice_size, packets_with, main_of, description_of, pairs_of, target_of, are_in_profile, recovery_of, other_par_names, IsSound, read_set, set_of, candidates, AreFew, cut_into, FilesHaveTheirSize, ◌>>=◌, IsDistinct, target_names, Contains-from_any, list_any-from_Contains}
 use Rattle.par2_spec.proofs.ListsLaws.{by_either, same_name, itself, clash, AreDistinct, among-filter, AreOf, IsBelow, some_list, all_below_are, all_below_complete, all_lists_are, all_lists_complete, find_one, filter-none, all-both, all_unmap, all-map, kept as kept_one, by_test, is_true, by_true, any-map, any-flat_map, in_range_some, map-cond, all-passing, all-flat_map, among-append, std_from_distinct, found_one, all-take, all-drop}
 use Rattle.std.specs.FinMap as map_of
 

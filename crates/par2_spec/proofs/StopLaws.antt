@@ -1,9 +1,5 @@
 -- A folder that a stopped command left opens as the session from before the command.
-use Rattle.par2_spec.proofs.Common.{◌≡◌, ℕ, zero, suc, ◌+◌, ◌-◌, ◌<◌, ◌≤◌, List, [], ◌∷◌, ◌++◌, length, map, take, drop, get_or, refl, sym, ap, ◌∙◌, subst, true, false, Bool, ◌&&◌, inl, arith, length-append, length-drop, append-nil, IfSome, reverse, position, Option, Some, None, Result, Ok, Err, unwrap_or, is_some, if◌then◌else◌, position_from, bytes_eq, drop-append_seam, take-append_seam, reverse-reverse, reverse-append, length-reverse, get_or-reverse, get_or-map, take-append-drop, length-map, length-take-le, take-map, take-take, get_or-take, drop-drop, reverse_onto, common_steps, and_parts, and_from, false≢true, position_from-zero, Folder, fingerprint, Change, effect, inverse, is_applicable, effects, are_applicable, way_back, folders_after, Session, session_of, is_valid, Opened, Settled, Halfway, opened_if_found, opened_by_part, FingerprintsDiffer, session_of_opened, kept_in, settled_journal, halfway_journal, leads, leads_through, taken_back, opened, OpensAs, Opens, HalfwayBytesOpenAsBefore, HalfwayBytesStillOpen, IsTrue}
-use Rattle.par2_spec.specs.declared.Version.{Version}
-use Rattle.par2_spec.specs.Journals.{Journal, HalfwayPart, IsHalfwayPart, Spells, IsJournal}
-use Rattle.par2_spec.specs.declared.JournalFault.{JournalFault}
-use Rattle.par2_spec.specs.declared.JournalFault.TheVariants.{JournalInvalid}
+use Rattle.par2_spec.proofs.Common.{◌≡◌, ℕ, zero, suc, ◌+◌, ◌-◌, ◌<◌, ◌≤◌, List, [], ◌∷◌, ◌++◌, length, map, take, drop, get_or, refl, sym, ap, ◌∙◌, subst, true, false, Bool, ◌&&◌, inl, arith, length-append, length-drop, append-nil, IfSome, reverse, position, Option, Some, None, Result, Ok, Err, unwrap_or, is_some, if◌then◌else◌, position_from, bytes_eq, drop-append_seam, take-append_seam, reverse-reverse, reverse-append, length-reverse, get_or-reverse, get_or-map, take-append-drop, length-map, length-take-le, take-map, take-take, get_or-take, drop-drop, reverse_onto, common_steps, and_parts, and_from, false≢true, position_from-zero, Folder, fingerprint, Change, effect, inverse, is_applicable, effects, are_applicable, way_back, folders_after, Session, session_of, is_valid, Opened, Settled, Halfway, opened_if_found, opened_by_part, FingerprintsDiffer, session_of_opened, kept_in, settled_journal, halfway_journal, leads, leads_through, taken_back, opened, OpensAs, Opens, HalfwayBytesOpenAsBefore, HalfwayBytesStillOpen, IsTrue, Version, Journal, HalfwayPart, IsHalfwayPart, Spells, IsJournal, JournalFault, JournalInvalid}
 use Rattle.par2_spec.proofs.Basics.{undo_changes, undo_change, undo_is_applicable, effects-append, way_back-append, itself, same_name, all_get, by_test}
 
 -- ---- positions in a list

@@ -1,7 +1,5 @@
 -- B-tree sets of names, or of keys that represent names.
-use Rattle.par2_spec.proofs.Common.{◌≡◌, ℕ, List, [], ◌∷◌, ◌++◌, true, cond, arith, slice_cmp, nat_cmp, Ordering, is_eq-slice_cmp, is_among}
-use Rattle.std.specs.BTreeSet.{BTreeSet, contains}
-use Rattle.std.specs.BTreeMap.{is_at}
+use Rattle.par2_spec.proofs.Common.{◌≡◌, ℕ, List, [], ◌∷◌, ◌++◌, true, cond, arith, slice_cmp, nat_cmp, Ordering, is_eq-slice_cmp, is_among, BTreeSet, contains, is_at}
 use Rattle.par2_spec.proofs.Basics.{among-append, same_either_way}
 
 -- the order of keys by their names

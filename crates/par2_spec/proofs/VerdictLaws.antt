@@ -1,7 +1,5 @@
 -- The meaning of the verdict.
-use Rattle.par2_spec.proofs.Common.{◌≡◌, ◌+◌, ℕ, List, [], ◌∷◌, T, length, map, refl, sym, ap, ◌∙◌, subst, Bool, true, false, not, Less, arith, ◌↔◌, ◌==◌, nat_lt, Option, Some, Result, Ok, filter, is_some, is_none, if◌then◌else◌, bytes_eq, md5, nat_cmp, is_lt, entries_sorted, is_sorted, below_all, list_all, list_any, enumerate_from, AllByRecursion, eqb-true, eq-eqb, false≢true, not-true, false_from_ne_true, IsStrictlyIncreasing-from_sorted, Fault, NotRepairable, NameTooLong, RepairFailed, then_fault, first_fault, fault_where, Folder, bytes_of, ParSet, Target, set_of, all_pairs, found, is_incomplete, incomplete, lost, survivors, candidates, known, is_repairable, IsRepairable, rank, aside, put_aside, rebuilt_targets, Repair, set_in, refusal, repair_refusal, Report, is_complete, verdict_of, IsVerdict, IsVerdictIn, RefusedAsReported, state_of, report_of_target, report_of, report_in, IsStrictlySortedBy, Ordering, ◌>>=◌}
-use Rattle.par2_spec.specs.declared.Verdict.{Verdict}
-use Rattle.par2_spec.specs.declared.Verdict.TheVariants.{Complete, Repairable}
+use Rattle.par2_spec.proofs.Common.{◌≡◌, ◌+◌, ℕ, List, [], ◌∷◌, T, length, map, refl, sym, ap, ◌∙◌, subst, Bool, true, false, not, Less, arith, ◌↔◌, ◌==◌, nat_lt, Option, Some, Result, Ok, filter, is_some, is_none, if◌then◌else◌, bytes_eq, md5, nat_cmp, is_lt, entries_sorted, is_sorted, below_all, list_all, list_any, enumerate_from, AllByRecursion, eqb-true, eq-eqb, false≢true, not-true, false_from_ne_true, IsStrictlyIncreasing-from_sorted, Fault, NotRepairable, NameTooLong, RepairFailed, then_fault, first_fault, fault_where, Folder, bytes_of, ParSet, Target, set_of, all_pairs, found, is_incomplete, incomplete, lost, survivors, candidates, known, is_repairable, IsRepairable, rank, aside, put_aside, rebuilt_targets, Repair, set_in, refusal, repair_refusal, Report, is_complete, verdict_of, IsVerdict, IsVerdictIn, RefusedAsReported, state_of, report_of_target, report_of, report_in, IsStrictlySortedBy, Ordering, ◌>>=◌, Verdict, Complete, Repairable}
 use Rattle.par2_spec.specs.declared.Verdict.TheVariants as verdict
 use Rattle.par2_spec.proofs.Basics.{T-parts, repairable-iff, none_kept, all_by_test, same_ok, all-map, all-flat_map}
 use Rattle.par2_spec.proofs.FullRank.{full-iff}

@@ -1,8 +1,5 @@
 -- Output that is written in parts.
-use Rattle.par2_spec.proofs.Common.{◌≡◌, ◌++◌, map, ◌+◌, ◌-◌, ◌<◌, ℕ, suc, List, [], take, drop, length, sym, subst, append-nil, append_assoc, length-drop, length-append, arith, get_or, take-append_seam, take-append-add, drop-cons, take-append-drop, take-append-le, take_all, take_more, flat_map-append, common_steps, flat_map-map, Option, Result, Ok, Err, flat_map}
-use Rattle.std.specs.Io.KnownBytes.{Appends}
-use Rattle.std.proofs.KnownBytes.{Appends-trans}
-use Rattle.par2_spec.specs.Writing.{Writer, TookAll, TookPart, Wrote}
+use Rattle.par2_spec.proofs.Common.{◌≡◌, ◌++◌, map, ◌+◌, ◌-◌, ◌<◌, ℕ, suc, List, [], take, drop, length, sym, subst, append-nil, append_assoc, length-drop, length-append, arith, get_or, take-append_seam, take-append-add, drop-cons, take-append-drop, take-append-le, take_all, take_more, flat_map-append, common_steps, flat_map-map, Option, Result, Ok, Err, flat_map, Appends, Appends-trans, Writer, TookAll, TookPart, Wrote}
 
 -- nothing more was taken
 pub part : (a b c : Option (List ℕ)) (sent rest bytes : List ℕ) → bytes ≡ sent ++ rest → 0 < length rest → Appends a b sent → Appends b c []

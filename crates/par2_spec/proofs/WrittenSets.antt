@@ -1,6 +1,5 @@
 -- The accepted packets of a file's bytes, in three equations.
-use Rattle.par2_spec.proofs.Common.{◌≡◌, ℕ, suc, ◌-◌, ◌≤◌, List, ◌∷◌, drop, refl, ap, ◌∙◌, true, false, arith, accepted, begins_with_packet, first_packet, claimed_length, accepted_after, ◌+◌, ◌%◌, ◌^◌, ◌<◌, Bool, leb, eqb, ◌&&◌, [], ◌++◌, length, sym, append_assoc, length-append, flat_map, AllByRecursion, w64, to_le_bytes, bytes_eq, le-leb, eq-eqb, lt-leb, leb-true, and_parts, take_at, drop_at, from_le_bytes-to_le_bytes_8, bytes_eq-Decides, md5, length-md5, bytes_at, magic, type_of, kind_of, Packet, digest_input, IsPacket, u64_at, packet, ◌*◌, ◌/◌, take, map, zero, append-nil, Option, Some, None, reverse, replicate, w32, from_le_bytes, w16, range_with_len, list_any, prefix_len, suffix_len, and_from, cond-true, or_parts, or_from, length-replicate, reverse-append, replicate_more, from_le_bytes-to_le_bytes_4, Pair, IsPair, items_at, MainBody, IfscBody, without_end_zeros, DescBody, IsCanonical, u32_at, read_main, read_ifsc, read_desc, FileRecord, main_bytes, ifsc_bytes, pair_bytes, recovery_bytes, desc_bytes, padded_4, IsFileRecord, creator_bytes, main_id, packet_of, recovery_packets, index_packets, list_any-append, prefix_len-append, prefix_len-replicate, length-range_with_len, Kind, dot, coefficients, recovery, combination, word, common_steps, ◌==◌}
-use Rattle.par2_spec.specs.declared.Kind.TheVariants.{Main, Ifsc, Recovery, FileDesc, Creator}
+use Rattle.par2_spec.proofs.Common.{◌≡◌, ℕ, suc, ◌-◌, ◌≤◌, List, ◌∷◌, drop, refl, ap, ◌∙◌, true, false, arith, accepted, begins_with_packet, first_packet, claimed_length, accepted_after, ◌+◌, ◌%◌, ◌^◌, ◌<◌, Bool, leb, eqb, ◌&&◌, [], ◌++◌, length, sym, append_assoc, length-append, flat_map, AllByRecursion, w64, to_le_bytes, bytes_eq, le-leb, eq-eqb, lt-leb, leb-true, and_parts, take_at, drop_at, from_le_bytes-to_le_bytes_8, bytes_eq-Decides, md5, length-md5, bytes_at, magic, type_of, kind_of, Packet, digest_input, IsPacket, u64_at, packet, ◌*◌, ◌/◌, take, map, zero, append-nil, Option, Some, None, reverse, replicate, w32, from_le_bytes, w16, range_with_len, list_any, prefix_len, suffix_len, and_from, cond-true, or_parts, or_from, length-replicate, reverse-append, replicate_more, from_le_bytes-to_le_bytes_4, Pair, IsPair, items_at, MainBody, IfscBody, without_end_zeros, DescBody, IsCanonical, u32_at, read_main, read_ifsc, read_desc, FileRecord, main_bytes, ifsc_bytes, pair_bytes, recovery_bytes, desc_bytes, padded_4, IsFileRecord, creator_bytes, main_id, packet_of, recovery_packets, index_packets, list_any-append, prefix_len-append, prefix_len-replicate, length-range_with_len, Kind, dot, coefficients, recovery, combination, word, common_steps, ◌==◌, Main, Ifsc, Recovery, FileDesc, Creator}
 use Rattle.par2_spec.proofs.Basics.{all-each, all-map, all-append, all_weaker}
 
 -- to begin after n bytes is to begin with the rest of the bytes

@@ -1,3 +1,4 @@
 mod Common
 mod Openings
 mod Runs
+mod Names

@@ -1,12 +1,9 @@
 -- Changes that were made in order in a store.
-use Rattle.par2_tool.proofs.Common.{◌≡◌, ◌<◌, ◌+◌, ℕ, zero, suc, List, [], ◌∷◌, ◌++◌, length, map, get_or, take, IsTrue, refl, sym, ap, subst, ◌∙◌, arith, ◌⊎◌, inl, inr, map_more, length-map, take_all, take-map, and_parts, Contents, with_change, with_journal, change_of, KeptSession, OnlyGrew, Kind, changes_by_kind, with_all_changes, AreSomeWritten, with_halfway_journal, IsStoppedAt, Journals, true, Option, Some, None, Result, Ok, Err, Vec, option_map, OnErr, OnOk, on_ok_weaker, IfErr, IfOk, IsErr, started_of, unopened_as, IsOpened, WasRead, IsStillHalfway, IsTakenBack, IsCounted, Holds, IsOpening, OpensAsBefore, FingerprintsDifferBack, with_history, KeepsStore, AreCallsToOpen, CountsCalls, IsHalfway, IsUnopened, OpensStore, refused_as, Global, Folder, Change, are_applicable, effects, Session, Journal, Spells, Opened, Settled, Halfway, Started, is_valid, new_session, settled_journal, started, FingerprintsDiffer, Opens, OpensAs, opened, JournalFault, Two, settled_stored, still_stored, taken_back_leads, OpenFault, by_either, ◌≢◌, ◌≤◌, takes_all, Action, LeadsToAfterRequested, halfway_where, CanWalk, session_of_kept, changes_requested, kept_done, kept_undone, kept_redone, done_can_walk, undone_can_walk, redone_can_walk, grown_can_walk, walked_is_valid, same_session, halfway_stored, Changing, Moving, Next, Prepared, CanBe, IsReady, entries_for, moved, after_commit, next_of, SpellsWhere, SpellsReady, HoldsJournaled, after_write_down, FingerprintsDifferAlong, OpensAsBeforeOrAfter, Do, Verify, action_of, Plan, NothingToUndo, NothingToRedo, AreAtMost, StandsFor, IsVerify, AreCallsToRun, CountsFailedRun, calls_requested, calls_unless, failure_for, calls_before, PerformFault, SessionFault, Bool, false, leads, history_of, session_unless, session_after, accepted_next, refused_alike, same_ok, ok_no_err, IsSettled, IsWritten, IsRefusedFor, HasNoEffect, Runs, Effective, TakesEffect, OpensInOneWay, KeepOneHistory, Refusal, Execution, history_after, drop, replicate, Undo, AllByRecursion, length-replicate, History, Ended, Accepted, Passed, IsChanging, folders, replicate_more, LeadBack, IsOneUndoFrom, changes_of, set_in, refusal, Report, report_in, changes_unless, Fault, Memory, MayRefuse, report_of, false≢true, Command, IsAnswer, IsRefused, IsBack, IsCause, IsFailed, IsStopped, IsDone, Outcome, output_of}
-use Rattle.par2_disk.specs.Stores.{OnlyReads}
+use Rattle.par2_tool.proofs.Common.{◌≡◌, ◌<◌, ◌+◌, ℕ, zero, suc, List, [], ◌∷◌, ◌++◌, length, map, get_or, take, IsTrue, refl, sym, ap, subst, ◌∙◌, arith, ◌⊎◌, inl, inr, map_more, length-map, take_all, take-map, and_parts, Contents, with_change, with_journal, change_of, KeptSession, OnlyGrew, Kind, changes_by_kind, with_all_changes, AreSomeWritten, with_halfway_journal, IsStoppedAt, Journals, true, Option, Some, None, Result, Ok, Err, Vec, option_map, OnErr, OnOk, on_ok_weaker, IfErr, IfOk, IsErr, started_of, unopened_as, IsOpened, WasRead, IsStillHalfway, IsTakenBack, IsCounted, Holds, IsOpening, OpensAsBefore, FingerprintsDifferBack, with_history, KeepsStore, AreCallsToOpen, CountsCalls, IsHalfway, IsUnopened, OpensStore, refused_as, Global, Folder, Change, are_applicable, effects, Session, Journal, Spells, Opened, Settled, Halfway, Started, is_valid, new_session, settled_journal, started, FingerprintsDiffer, Opens, OpensAs, opened, JournalFault, Two, settled_stored, still_stored, taken_back_leads, OpenFault, by_either, ◌≢◌, ◌≤◌, takes_all, Action, LeadsToAfterRequested, halfway_where, CanWalk, session_of_kept, changes_requested, kept_done, kept_undone, kept_redone, done_can_walk, undone_can_walk, redone_can_walk, grown_can_walk, walked_is_valid, same_session, halfway_stored, Changing, Moving, Next, Prepared, CanBe, IsReady, entries_for, moved, after_commit, next_of, SpellsWhere, SpellsReady, HoldsJournaled, after_write_down, FingerprintsDifferAlong, OpensAsBeforeOrAfter, Do, Verify, action_of, Plan, NothingToUndo, NothingToRedo, AreAtMost, StandsFor, IsVerify, AreCallsToRun, CountsFailedRun, calls_requested, calls_unless, failure_for, calls_before, PerformFault, SessionFault, Bool, false, leads, history_of, session_unless, session_after, accepted_next, refused_alike, same_ok, ok_no_err, IsSettled, IsWritten, IsRefusedFor, HasNoEffect, Runs, Effective, TakesEffect, OpensInOneWay, KeepOneHistory, Refusal, Execution, history_after, drop, replicate, Undo, AllByRecursion, length-replicate, History, Ended, Accepted, Passed, IsChanging, folders, replicate_more, LeadBack, IsOneUndoFrom, changes_of, set_in, refusal, Report, report_in, changes_unless, Fault, Memory, MayRefuse, report_of, false≢true, Command, IsAnswer, IsRefused, IsBack, IsCause, IsFailed, IsStopped, IsDone, Outcome, output_of, OnlyReads, state_files, taken_are_applicable, one_fewer, candidates, ParSet, ◌>>=◌, fault_of}
 use Rattle.par2_disk.specs.declared.store.Store.{Ghosts as StoreOf}
-use Rattle.par2_spec.proofs.FolderLaws.{state_files, taken_are_applicable}
 use Rattle.par2_files.specs.declared.change.Change.{Change as WrittenChange}
 use Rattle.par2_tool.specs.declared.performing.PerformFault.TheVariants.{Session as Refusing, Store}
 use Rattle.par2_spec.specs.declared.JournalFault.TheVariants.{FolderChanged}
-use Rattle.par2_laws.proofs.UndoneFolders.{one_fewer}
 use Rattle.par2_spec.specs.Changes as defined
 use Rattle.par2_spec.specs.declared.JournalFault.TheVariants as fault
 use Rattle.par2_tool.specs.declared.opening.Started as program
@@ -14,7 +11,6 @@ use Rattle.par2_journal.specs.declared.opening.Next.TheVariants as next
 use Rattle.par2_spec.specs.declared.commands.Action as requested
 use Rattle.par2_spec.specs.History as history
 use Rattle.par2_tool.specs.Runs as runs
-use Rattle.par2_spec.specs.Prelude.{candidates, ParSet, ◌>>=◌, fault_of}
 use Rattle.par2_tool.specs.declared.opening.OpenFault.TheVariants as unopened
 use Rattle.par2_spec.specs.declared.commands.Action.{Action as RequestedAction}
 

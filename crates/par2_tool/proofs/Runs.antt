@@ -1,17 +1,8 @@
 -- What the status of a run determines.
-use Rattle.par2_tool.proofs.Common.{◌≡◌, ◌≢◌, ◌⊎◌, ℕ, false, arith, List, Option, status_of, status_of_fault, status_of_failure, Fault, Answered, Failed, RunResult, IsShown, Failure, NotRepairable, RepairFailed, may_refuse, Printer, inl, inr, ◌<◌, Bool, Some, Ok, Err, refl, sym, ap, subst, ◌∙◌, Action, Command, Do, Repair, Folder, Started, Contents, Outcome, Memory, IsOpening, with_history, IsOpened, OnlyTakesBack, FingerprintsDifferInRun, IsDone, IsFailed, IsUnread, AskFor, HasNoEffect, TakesEffect, AskForRepair, IsRunResult, IsStopped, Session, changes_requested, Refused, Store, JournalInvalid, FolderChanged, refusal, HoldsAfter, LeavesStopped, OpensInOneWay, ◌+◌, Verify, AreCallsToRun, CountsFailedRun, IsResult, Change, AreCallsToOpen, IsHalfway, [], PrinterTookAll, IsPrinted, append-nil, true, is_some}
-use Rattle.std.specs.Io.KnownBytes.{Appends}
-use Rattle.std.proofs.KnownBytes.{Appends-trans}
-use Rattle.par2_spec.specs.declared.Failure.TheVariants.{Arguments, NothingToUndo, NothingToRedo}
-use Rattle.par2_laws.proofs.RepairAnswers.{IsRepaired, is_repaired}
+use Rattle.par2_tool.proofs.Common.{◌≡◌, ◌≢◌, ◌⊎◌, ℕ, false, arith, List, Option, status_of, status_of_fault, status_of_failure, Fault, Answered, Failed, RunResult, IsShown, Failure, NotRepairable, RepairFailed, may_refuse, Printer, inl, inr, ◌<◌, Bool, Some, Ok, Err, refl, sym, ap, subst, ◌∙◌, Action, Command, Do, Repair, Folder, Started, Contents, Outcome, Memory, IsOpening, with_history, IsOpened, OnlyTakesBack, FingerprintsDifferInRun, IsDone, IsFailed, IsUnread, AskFor, HasNoEffect, TakesEffect, AskForRepair, IsRunResult, IsStopped, Session, changes_requested, Refused, Store, JournalInvalid, FolderChanged, refusal, HoldsAfter, LeavesStopped, OpensInOneWay, ◌+◌, Verify, AreCallsToRun, CountsFailedRun, IsResult, Change, AreCallsToOpen, IsHalfway, [], PrinterTookAll, IsPrinted, append-nil, true, is_some, Appends, Appends-trans, Arguments, IsRepaired, is_repaired, ErrorKind, OutOfMemory, failure_of_kind, Text, takes, subcommand_of, par2_app, WordsFault}
+use Rattle.par2_spec.specs.declared.Failure.TheVariants.{NothingToUndo, NothingToRedo}
 use Rattle.par2_disk.specs.declared.store.Store.{Ghosts as StoreOf}
 use Rattle.par2_spec.specs.History as history
-use Rattle.std.specs.declared.io.ErrorKind.{ErrorKind}
-use Rattle.std.specs.declared.io.ErrorKind.TheVariants.{OutOfMemory}
-use Rattle.par2_tool.specs.Runs.{failure_of_kind}
-use Rattle.clap.specs.Words.{Text, takes, subcommand_of}
-use Rattle.par2_arguments.specs.Definition.{par2_app}
-use Rattle.par2_arguments.specs.declared.read.WordsFault.{WordsFault}
 use Rattle.par2_arguments.specs.declared.read.WordsFault.TheVariants as word
 
 -- a fault's status is never 0; each of 2 and 5 has a single fault; and a repair of what a create left has no fault of

@@ -1,8 +1,5 @@
 -- Additions to buffers: by ranges, columns, groups and blocks of outputs.
-use Rattle.par2_transform.proofs.Common.{inl, inr, ℕ, suc, ◌+◌, ◌-◌, ◌*◌, ◌<◌, ◌≤◌, ◌≡◌, ◌≢◌, refl, sym, ap, ap₂, ◌∙◌, arith, Bool, true, false, List, ◌++◌, length, get_or, take, drop, bit_xor, if◌then◌else◌, ◌&&◌, nat_le, nat_lt, slice_index, cases_lt, cases_eq, lt-ltb, le-ltb, le-leb, get_or-append_right, get_or_append_left, get_or-take, get_or-drop, length-take-le, length-drop, lt_of_le-ne, xor_assoc, xor_zero_r, xor_zero_l, word, list_at, OneChanged, field_sum, within, place_at, output_word, AddsAt, AddsTo, AreApart, HasByte, LieWithin, Place, ◌/◌, ◌%◌, min, get_or_past, Adds, Fit, Global, Vec, lists_of, subst, div_ceil, div_ceil_times, slice_begins, Columns, Places, LieIn, length-lists_of, AddsToEach, AreWholeBuffers, HaveWords, map, range_with_len, length-map-range_with_len, get_or-map-range_with_len, YieldsList-from_map, YieldsList-from_range, items_from_collect, ◌^◌, mul, pow, word_of, WordVector, field_sum_same, from_gathered, chirp_inverse, Grid, column, EachColumn, member, ArePowerSums, power_sum, point, Cut, set, with_items, with_items_is, written_changed, written_here}
-use Rattle.std.proofs.lemmas.Bool.{lt-leb}
-use borrow.Rule.Slice.PartMut.{put_mid, same_len_mid}
-use Rattle.par2_gf16.proofs.Words.{word_xor}
+use Rattle.par2_transform.proofs.Common.{inl, inr, ℕ, suc, ◌+◌, ◌-◌, ◌*◌, ◌<◌, ◌≤◌, ◌≡◌, ◌≢◌, refl, sym, ap, ap₂, ◌∙◌, arith, Bool, true, false, List, ◌++◌, length, get_or, take, drop, bit_xor, if◌then◌else◌, ◌&&◌, nat_le, nat_lt, slice_index, cases_lt, cases_eq, lt-ltb, le-ltb, le-leb, get_or-append_right, get_or_append_left, get_or-take, get_or-drop, length-take-le, length-drop, lt_of_le-ne, xor_assoc, xor_zero_r, xor_zero_l, word, list_at, OneChanged, field_sum, within, place_at, output_word, AddsAt, AddsTo, AreApart, HasByte, LieWithin, Place, ◌/◌, ◌%◌, min, get_or_past, Adds, Fit, Global, Vec, lists_of, subst, div_ceil, div_ceil_times, slice_begins, Columns, Places, LieIn, length-lists_of, AddsToEach, AreWholeBuffers, HaveWords, map, range_with_len, length-map-range_with_len, get_or-map-range_with_len, YieldsList-from_map, YieldsList-from_range, items_from_collect, ◌^◌, mul, pow, word_of, WordVector, field_sum_same, from_gathered, chirp_inverse, Grid, column, EachColumn, member, ArePowerSums, power_sum, point, Cut, set, with_items, with_items_is, written_changed, written_here, lt-leb, put_mid, same_len_mid, word_xor}
 
 -- a word of the first bytes
 pub first_word : (n p : ℕ) (bytes : List ℕ) → 2 * p + 1 < n → word p (take n bytes) ≡ word p bytes

@@ -1,8 +1,7 @@
 -- Blocks of outputs, one after the other.
-use Rattle.par2_transform.proofs.Common.{inl, inr, ℕ, ◌+◌, ◌-◌, ◌*◌, ◌<◌, ◌≡◌, ◌≢◌, refl, sym, ap, ap₂, subst, ◌∙◌, arith, bit_xor, List, [], ◌∷◌, ◌++◌, length, get_or, length-append, get_or_append_left, get_or_at, get_or_default, get_or-set_other, get_or-set_same, length-set, length-map-range_with_len, get_or-map-range_with_len, map, range_with_len, Tabulates, mul, Grid, column, IsAdded, cases_eq, cases_lt, AddsAt, Outputs, IsBlock, AreBlocks, RowsGathered, BlocksBecome, Keeps, from_gathered, within, outputs_at, weight_at, Cut, HasWeights, Place, field_sum, YieldsList-from_map, YieldsList-from_range, items_from_collect, suc, ◌/◌, ◌%◌, ◌^◌, ◌≤◌, div-mul-le_self, mul-le-mul_right, mod-lt, lt_of_le-ne, div-add-mod', if◌then◌else◌, not, ◌==◌, ◌&&◌, pow, is_coprime, product-zero, get_or_past, word, list_at, word-lt, field_sum_same, field_sum_one, field_sum_none, IsGathered, EachBlock, CoverOutputs, HasSize, class_sum_at, chirp_inverse, coprimes_below, AreWordsOfFirst, word_at_power, words_at, AreByteLists, recovered, point, Reaches, gathered, xor_zero_r, zero-product, IsCleared, Gathers, HaveFirst, HaveShape, Plan, cut_of, value, AreValues, EachColumn, coefficient_of, coefficients_from, window_value, GivesElements, AreWeightRows, chirp, AreWeights}
-use Rattle.std.proofs.Common.{Bool}
+use Rattle.par2_transform.proofs.Common.{inl, inr, ℕ, ◌+◌, ◌-◌, ◌*◌, ◌<◌, ◌≡◌, ◌≢◌, refl, sym, ap, ap₂, subst, ◌∙◌, arith, bit_xor, List, [], ◌∷◌, ◌++◌, length, get_or, length-append, get_or_append_left, get_or_at, get_or_default, get_or-set_other, get_or-set_same, length-set, length-map-range_with_len, get_or-map-range_with_len, map, range_with_len, Tabulates, mul, Grid, column, IsAdded, cases_eq, cases_lt, AddsAt, Outputs, IsBlock, AreBlocks, RowsGathered, BlocksBecome, Keeps, from_gathered, within, outputs_at, weight_at, Cut, HasWeights, Place, field_sum, YieldsList-from_map, YieldsList-from_range, items_from_collect, suc, ◌/◌, ◌%◌, ◌^◌, ◌≤◌, div-mul-le_self, mul-le-mul_right, mod-lt, lt_of_le-ne, div-add-mod', if◌then◌else◌, not, ◌==◌, ◌&&◌, pow, is_coprime, product-zero, get_or_past, word, list_at, word-lt, field_sum_same, field_sum_one, field_sum_none, IsGathered, EachBlock, CoverOutputs, HasSize, class_sum_at, chirp_inverse, coprimes_below, AreWordsOfFirst, word_at_power, words_at, AreByteLists, recovered, point, Reaches, gathered, xor_zero_r, zero-product, IsCleared, Gathers, HaveFirst, HaveShape, Plan, cut_of, value, AreValues, EachColumn, coefficient_of, coefficients_from, window_value, GivesElements, AreWeightRows, chirp, AreWeights, Bool, nat_le, nat_lt}
 use Rattle.std.proofs.Math.ListN.{set}
-use Rattle.std.specs.Prelude.{false, nat_le, nat_lt, true}
+use Rattle.std.specs.Prelude.{false, true}
 use Rattle.par2_transform.proofs.Additions.{adds_none, adds_next, still_within, still_fits, adds_same, within-in, within-below, within-above, within_same, within_zero}
 use Rattle.par2_transform.proofs.Chirps.{class_by_windows, sum_by_classes}
 use Rattle.par2_transform.proofs.Subspaces.{field_sum_join}

@@ -1,8 +1,6 @@
 -- Chirps, and sums of products with them.
-use Rattle.par2_transform.proofs.Common.{ℕ, zero, suc, ◌+◌, ◌*◌, ◌^◌, ◌<◌, ◌≤◌, ◌≡◌, refl, sym, ap, ◌∙◌, arith, mul_comm, mul_assoc, mul-add, add_comm, mul-zero, add-zero, mul, pow, field_sum, GivesElements, power-lt, power-add, no_zero_divisor, product-lt, product_comm, product-one, product_assoc, product_linear_left, power_inverse, field_sum_same, field_sum_scaled, point, value, AreWeights, triangle, chirp, chirp_inverse, ◌-◌, ◌/◌, ◌%◌, power-65535, power-mul, one-power, ap₂, subst, bit_xor, Bool, true, false, cond, List, ◌∷◌, length, get_or, inl, inr, add-mul, zero-mul, one-mul, cases_lt, cases_eq, cases_Bool, xor_zero_r, filter, is_coprime, constant_powers, product-zero, field_sum_xor, field_sum_none, AreWordsOfFirst, coprimes_below, word_at_power, constant, coefficient, class_sum_at, Cut, Reaches, coefficient_of, window_value, gathered, HasWeights, from_gathered, [], ◌++◌, length-append, if◌then◌else◌, get_or_append_left, get_or_at, get_or_past, get_or_default, word, list_at, words_at, AreNumbers, length-map}
-use Rattle.std.specs.List.{range_with_len}
+use Rattle.par2_transform.proofs.Common.{ℕ, zero, suc, ◌+◌, ◌*◌, ◌^◌, ◌<◌, ◌≤◌, ◌≡◌, refl, sym, ap, ◌∙◌, arith, mul_comm, mul_assoc, mul-add, add_comm, mul-zero, add-zero, mul, pow, field_sum, GivesElements, power-lt, power-add, no_zero_divisor, product-lt, product_comm, product-one, product_assoc, product_linear_left, power_inverse, field_sum_same, field_sum_scaled, point, value, AreWeights, triangle, chirp, chirp_inverse, ◌-◌, ◌/◌, ◌%◌, power-65535, power-mul, one-power, ap₂, subst, bit_xor, Bool, true, false, cond, List, ◌∷◌, length, get_or, inl, inr, add-mul, zero-mul, one-mul, cases_lt, cases_eq, cases_Bool, xor_zero_r, filter, is_coprime, constant_powers, product-zero, field_sum_xor, field_sum_none, AreWordsOfFirst, coprimes_below, word_at_power, constant, coefficient, class_sum_at, Cut, Reaches, coefficient_of, window_value, gathered, HasWeights, from_gathered, [], ◌++◌, length-append, if◌then◌else◌, get_or_append_left, get_or_at, get_or_past, get_or_default, word, list_at, words_at, AreNumbers, length-map, range_with_len, length-constant_powers}
 use Rattle.par2_transform.proofs.Subspaces.{point-lt, field_sum_swap, field_sum_linear, field_sum_join}
-use Rattle.par2_spec.proofs.FieldLaws.{length-constant_powers}
 use Rattle.par2_transform.proofs.Additions.{zero_either_way}
 
 triangle-add : (m e : ℕ) → triangle (m + e) ≡ triangle m + triangle e + m * e

@@ -1,12 +1,7 @@
 -- Sums of sources by the error locator, and what they are made of.
-use Rattle.par2_transform.proofs.Common.{div-mul-le_self, div-add-mod', div-mul-add, mod-lt, pow_pos, pow_mono, ◌/◌, WordVector, word_of, map, inl, inr, suc, pow-suc, AreCopied, ℕ, ◌+◌, ◌-◌, ◌*◌, ◌%◌, ◌^◌, ◌<◌, ◌≤◌, ◌≡◌, sym, ap, ap₂, subst, ◌∙◌, arith, bit_xor, zero-add, add-mul, one-mul, List, length, get_or, slice_index, get_or_past, length-map, pow-le-pow_right, point_number, cases_lt, pow-add, mul-le-mul_right, xor_zero_l, mul, pow, GivesElements, product-lt, product_comm, product-one, product_assoc, product_linear_left, zero-product, power-lt, word-lt, field_sum, field_sum-lt, field_sum_same, field_sum_scaled, within, AddsAt, RowsGathered, AreByteLists, words_at, list_at, AreValues, AreWeights, value, from, Grid, column, EachColumn, ArePowerSums, power_sum, point, IsListed, AreListedValues, AreNumbered, AreNumerators, HaveFirst, IsWeighed, in_coset, numerator, quotient_sum, Place}
-use Rattle.std.proofs.lemmas.List.{get_or-map}
-use Rattle.std.specs.Int.{IsPowerOfTwo}
-use Rattle.std.specs.Prelude.{max}
+use Rattle.par2_transform.proofs.Common.{div-mul-le_self, div-add-mod', div-mul-add, mod-lt, pow_pos, pow_mono, ◌/◌, WordVector, word_of, map, inl, inr, suc, pow-suc, AreCopied, ℕ, ◌+◌, ◌-◌, ◌*◌, ◌%◌, ◌^◌, ◌<◌, ◌≤◌, ◌≡◌, sym, ap, ap₂, subst, ◌∙◌, arith, bit_xor, zero-add, add-mul, one-mul, List, length, get_or, slice_index, get_or_past, length-map, pow-le-pow_right, point_number, cases_lt, pow-add, mul-le-mul_right, xor_zero_l, mul, pow, GivesElements, product-lt, product_comm, product-one, product_assoc, product_linear_left, zero-product, power-lt, word-lt, field_sum, field_sum-lt, field_sum_same, field_sum_scaled, within, AddsAt, RowsGathered, AreByteLists, words_at, list_at, AreValues, AreWeights, value, from, Grid, column, EachColumn, ArePowerSums, power_sum, point, IsListed, AreListedValues, AreNumbered, AreNumerators, HaveFirst, IsWeighed, in_coset, numerator, quotient_sum, Place, get_or-map, IsPowerOfTwo, max, combined, IsCombination, HoldNumerators}
 use Rattle.par2_transform.proofs.Additions.{adds_empty, adds_none, adds_range, adds_same, adds_whole, within-in, within-below, within-above, within_same, within_zero, power_sum_plain, begins, columns_within, no_words, wider_fit, are_whole, whole_apart}
-use Rattle.par2_transform.specs.Polynomials.{combined, IsCombination}
 use Rattle.par2_transform.proofs.StepLaws.{combined_same}
-use Rattle.par2_transform.specs.Locators.{HoldNumerators}
 use Rattle.par2_transform.proofs.Chirps.{hankel_sum}
 use Rattle.par2_transform.proofs.Subspaces.{point_number-lt, point_of_number, field_sum_swap, field_sum_linear}
 use Rattle.par2_transform.proofs.BlockLaws.{field_sum_short}

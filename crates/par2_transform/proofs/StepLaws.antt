@@ -1,11 +1,8 @@
 -- One column of values: through the loops of a level, divided, and combined.
-use Rattle.par2_transform.proofs.Common.{ℕ, suc, ◌+◌, ◌-◌, ◌*◌, ◌%◌, ◌^◌, ◌<◌, ◌≤◌, ◌≡◌, ◌≢◌, inl, inr, ◌⊎◌, AreTwoRuns, IsPair, IsRun, refl, sym, ap, ap₂, ◌∙◌, subst, arith, bit_xor, pow-suc, add_assoc, mul_assoc, add-mul, one-mul, mul-zero, List, length, get_or, set, bit_at, xor_zero_r, xor_assoc, pow-le-pow_right, cases_eq, cases_lt, get_or-set_same, get_or-set_other, pow-add, xor_lt, mul, GivesElements, field_sum, bit_times_xor, field_sum_same, field_sum_none, field_sum_xor, xor_off, within, powers_in, sum_ahead, IsMerged, from, SameValuesOutside, OneRun, RunAddedBy, RunAdded, IsButterfly, AddsToRun, AheadAdded, IsRaised, xor_comm, pow, power-lt, power-add, product_comm, product_assoc, product_linear_left, field_sum_scaled, vanishing, value, AreZeroFrom, product-zero, zero-product, spread_beyond, spread_within, IsSpreadAbove, IsSpreadBelow, zero, xor_self, xor_zero_l, product-lt, product_linear_right}
+use Rattle.par2_transform.proofs.Common.{ℕ, suc, ◌+◌, ◌-◌, ◌*◌, ◌%◌, ◌^◌, ◌<◌, ◌≤◌, ◌≡◌, ◌≢◌, inl, inr, ◌⊎◌, AreTwoRuns, IsPair, IsRun, refl, sym, ap, ap₂, ◌∙◌, subst, arith, bit_xor, pow-suc, add_assoc, mul_assoc, add-mul, one-mul, mul-zero, List, length, get_or, set, bit_at, xor_zero_r, xor_assoc, pow-le-pow_right, cases_eq, cases_lt, get_or-set_same, get_or-set_other, pow-add, xor_lt, mul, GivesElements, field_sum, bit_times_xor, field_sum_same, field_sum_none, field_sum_xor, xor_off, within, powers_in, sum_ahead, IsMerged, from, SameValuesOutside, OneRun, RunAddedBy, RunAdded, IsButterfly, AddsToRun, AheadAdded, IsRaised, xor_comm, pow, power-lt, power-add, product_comm, product_assoc, product_linear_left, field_sum_scaled, vanishing, value, AreZeroFrom, product-zero, zero-product, spread_beyond, spread_within, IsSpreadAbove, IsSpreadBelow, zero, xor_self, xor_zero_l, product-lt, product_linear_right, IsHalved, IsSplit, combined, xor_middle}
 use Rattle.std.proofs.Common.{mul-le-mul_right}
 use Rattle.par2_transform.proofs.Additions.{within-in, within-below, within-above, within_joined, within_same}
 use Rattle.par2_transform.proofs.Subspaces.{field_sum_bit_set, field_sum_bit_unset, leading_power, lower_powers, field_sum_join, field_sum_linear, bit_product, vanishing-lt}
-use Rattle.par2_transform.specs.Polynomials.{IsHalved, IsSplit}
-unfoldable use Rattle.par2_transform.specs.Polynomials.{combined}
-use Rattle.par2_spec.proofs.FieldLaws.{xor_middle}
 
 pub power_below : (j i : ℕ) → j < i → 2 ^ j + 2 ^ j ≤ 2 ^ i
 power_below j i h =

@@ -1,6 +1,5 @@
 -- Sums in the field: concatenated, exchanged, and distributed over.
-use Rattle.par2_transform.proofs.Common.{ℕ, zero, suc, ◌+◌, ◌*◌, ◌≡◌, refl, sym, ap, ◌∙◌, arith, bit_xor, add-zero, inl, inr, zero-mul, one-mul, mul-zero, bit_at, xor_assoc, xor_zero_r, mul, IsLinear, linear-zero, bit_cases, bit_times_xor, product-zero, zero-product, field_sum_xor, field_sum_none, field_sum, ◌/◌, ◌%◌, ◌^◌, ◌<◌, ap₂, true, eqb, ltb, get_or, pow-suc, eqb-true, ltb-true, cases_lt, get_or_past, div-le_self, div-div-eq-div-mul, xor_comm, xor_lt, xor_zero_l, xor_self, xor_middle, bit_xor_times, bits_ind, tested, tested_at, power-lt, power-add, product-lt, product_comm, product-one, product_linear_left, product_linear_right, field_sum_same, field_sum-lt, field_sum_head, xor_off, pow, basis, bit_numbers, point, point_number, vanishing, powers_in, ◌-◌, ◌≤◌, pow_pos, mul_comm, mul_assoc, add_assoc, add-mul, pow-lt, div-mul-add, xor_shifted, GivesElements, product_assoc, field_sum_scaled, member, sum_ahead, IsMerged, from, power_sum}
-use Rattle.std.proofs.lemmas.Nat.Bits.{bit_at-suc, bit_at_above, bit_at_xor, bit_at_lowest}
+use Rattle.par2_transform.proofs.Common.{ℕ, zero, suc, ◌+◌, ◌*◌, ◌≡◌, refl, sym, ap, ◌∙◌, arith, bit_xor, add-zero, inl, inr, zero-mul, one-mul, mul-zero, bit_at, xor_assoc, xor_zero_r, mul, IsLinear, linear-zero, bit_cases, bit_times_xor, product-zero, zero-product, field_sum_xor, field_sum_none, field_sum, ◌/◌, ◌%◌, ◌^◌, ◌<◌, ap₂, true, eqb, ltb, get_or, pow-suc, eqb-true, ltb-true, cases_lt, get_or_past, div-le_self, div-div-eq-div-mul, xor_comm, xor_lt, xor_zero_l, xor_self, xor_middle, bit_xor_times, bits_ind, tested, tested_at, power-lt, power-add, product-lt, product_comm, product-one, product_linear_left, product_linear_right, field_sum_same, field_sum-lt, field_sum_head, xor_off, pow, basis, bit_numbers, point, point_number, vanishing, powers_in, ◌-◌, ◌≤◌, pow_pos, mul_comm, mul_assoc, add_assoc, add-mul, pow-lt, div-mul-add, xor_shifted, GivesElements, product_assoc, field_sum_scaled, member, sum_ahead, IsMerged, from, power_sum, bit_at-suc, bit_at_above, bit_at_xor, bit_at_lowest}
 
 -- a sum in two parts
 pub field_sum_join : (m n : ℕ) (f : ℕ → ℕ) → field_sum (m + n) f ≡ bit_xor (field_sum m f) (field_sum n (λ i. f (m + i)))

@@ -1,5 +1,4 @@
-use Rattle.par2_md5_lanes.proofs.Common.{◌∙◌, ap, arith, length, sym}
-use Rattle.par2_md5_lanes.proofs.LaneLaws.{bytes_here}
+use Rattle.par2_md5_lanes.proofs.Names.{◌∙◌, ap, arith, length, sym, bytes_here}
 use Rattle.par2_md5_lanes.proofs.as_buffers.Goals as goal
 
 pub returns-clause-size : goal.returns-clause-size

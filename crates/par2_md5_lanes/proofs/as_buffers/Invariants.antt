@@ -1,5 +1,4 @@
-use Rattle.par2_md5_lanes.proofs.Common.{◌≡◌, ◌<◌, ℕ, digest_at, get_or, length}
-use Rattle.par2_md5_lanes.proofs.LaneLaws.{no_bytes}
+use Rattle.par2_md5_lanes.proofs.Names.{◌≡◌, ◌<◌, ℕ, digest_at, get_or, length, no_bytes}
 use Rattle.par2_md5_lanes.proofs.as_buffers.Given as goal
 
 abbrev pub invariant-loop-k : goal.invariant-loop-k

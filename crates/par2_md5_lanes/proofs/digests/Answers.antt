@@ -1,5 +1,4 @@
-use Rattle.par2_md5_lanes.proofs.Common.{digest_bytes, digest_at, md5, get_or-replicate, [], ◌≡◌, ◌+◌, ◌*◌, ◌/◌, ◌++◌, ◌<◌, ℕ, ap, arith, length, take, ◌∙◌, padded_message, padding, hash_after, hash_behind, length-append, length-replicate, tail_len, tail_of, buffer_at, ◌%◌}
-use Rattle.par2_md5_lanes.proofs.BlockLaws.{message_goes_on, all_blocks, last_blocks, whole_blocks}
+use Rattle.par2_md5_lanes.proofs.Names.{digest_bytes, digest_at, md5, get_or-replicate, [], ◌≡◌, ◌+◌, ◌*◌, ◌/◌, ◌++◌, ◌<◌, ℕ, ap, arith, length, take, ◌∙◌, padded_message, padding, hash_after, hash_behind, length-append, length-replicate, tail_len, tail_of, buffer_at, ◌%◌, message_goes_on, all_blocks, last_blocks, whole_blocks}
 use Rattle.par2_md5_lanes.proofs.digests.Goals as goal
 
 pub returns : goal.returns

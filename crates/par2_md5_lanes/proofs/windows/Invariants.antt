@@ -1,5 +1,4 @@
-use Rattle.par2_md5_lanes.proofs.Common.{◌≡◌, ◌<◌, ℕ, drop, get_or, length, slice_index, take}
-use Rattle.par2_md5_lanes.proofs.LaneLaws.{no_bytes}
+use Rattle.par2_md5_lanes.proofs.Names.{◌≡◌, ◌<◌, ℕ, drop, get_or, length, slice_index, take, no_bytes}
 use Rattle.par2_md5_lanes.proofs.windows.Given as goal
 
 abbrev pub invariant-loop-k : goal.invariant-loop-k

@@ -1,5 +1,4 @@
-use Rattle.par2_arguments.proofs.Common.{◌∙◌, ap, fold, map, new_app, subst, sym, take, App, IsApp, rule_for, with_rule, fold-append, map_more}
-use Rattle.par2_arguments.proofs.Subcommands.{with_argument}
+use Rattle.par2_arguments.proofs.Names.{◌∙◌, ap, fold, map, new_app, subst, sym, take, App, IsApp, rule_for, with_rule, fold-append, map_more, with_argument}
 
 pub loop-argument-preserved : Rattle.par2_arguments.proofs.definition.command_of.Goals.loop-argument-preserved
 loop-argument-preserved c =

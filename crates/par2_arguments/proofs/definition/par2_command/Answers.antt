@@ -1,5 +1,4 @@
-use Rattle.par2_arguments.proofs.Common.{◌∙◌, ap, arith, fold, map, subst, sym, take, with_subcommand, App, IsApp, start_app, fold-append, map_more, par2_app, take_all}
-use Rattle.par2_arguments.proofs.Subcommands.{shape_for, with_command}
+use Rattle.par2_arguments.proofs.Names.{◌∙◌, ap, arith, fold, map, subst, sym, take, with_subcommand, App, IsApp, start_app, fold-append, map_more, par2_app, take_all, shape_for, with_command}
 use Rattle.par2_arguments.proofs.definition.par2_command.Goals as goal
 
 pub loop-name-init : goal.loop-name-init

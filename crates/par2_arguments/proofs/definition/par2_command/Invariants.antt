@@ -1,5 +1,4 @@
-use Rattle.par2_arguments.proofs.Common.{fold, map, take, with_subcommand, IsApp, start_app}
-use Rattle.par2_arguments.proofs.Subcommands.{shape_for}
+use Rattle.par2_arguments.proofs.Names.{fold, map, take, with_subcommand, IsApp, start_app, shape_for}
 use Rattle.par2_arguments.proofs.definition.par2_command.Given as goal
 
 abbrev pub invariant-loop-name : goal.invariant-loop-name

@@ -1,5 +1,4 @@
-use Rattle.par2_arguments.proofs.Common.{◌≡◌, codes, false, rules, Bor, Text, found_of, bytes_eq, MatchOption}
-use Rattle.par2_arguments.proofs.Subcommands.{flag_read}
+use Rattle.par2_arguments.proofs.Names.{◌≡◌, codes, false, rules, Bor, Text, found_of, bytes_eq, MatchOption, flag_read}
 
 pub returns : Rattle.par2_arguments.proofs.read.has_flag.Goals.returns
 returns c =

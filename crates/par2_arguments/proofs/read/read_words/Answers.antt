@@ -1,6 +1,4 @@
-use Rattle.par2_spec.proofs.ListsLaws.{by_either}
-use Rattle.par2_arguments.proofs.Common.{◌≡◌, ◌∙◌, ap, subst, sym, true≢false, string_bytes, map, true, takes, Some, is_some, option_and_then, IfErr-weaker, IfOk-weaker, err_from_is_err_and, App, HasMatchesOf, found_of, rows_of, subcommand_of, meaning, par2_app}
-use Rattle.par2_arguments.proofs.Subcommands.{faultless, known, met, unmet}
+use Rattle.par2_arguments.proofs.Names.{by_either, ◌≡◌, ◌∙◌, ap, subst, sym, true≢false, string_bytes, map, true, takes, Some, is_some, option_and_then, IfErr-weaker, IfOk-weaker, err_from_is_err_and, App, HasMatchesOf, found_of, rows_of, subcommand_of, meaning, par2_app, faultless, known, met, unmet}
 use Rattle.par2_arguments.proofs.read.read_words.Goals.{In-Ok, In-Some}
 use Rattle.par2_arguments.proofs.read.read_words.Goals as goal
 

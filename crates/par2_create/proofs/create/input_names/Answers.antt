@@ -1,5 +1,4 @@
-use Rattle.par2_create.proofs.Common.{◌≡◌, ◌∙◌, ℕ, List, [], ◌∷◌, Bool, true, false, not, map, refl, ap, rules, cond, string_bytes, Some, is_some, IfSome, filter_map, IfOk-weaker, cons_option, AllByRecursion, at_none, is_input_name, BadName, YieldsList-from_slice, items_from_collect, Option, None}
-use Rattle.std.proofs.lemmas.Iterator.Consumers.{YieldsList-at, YieldsList-from_filter_map}
+use Rattle.par2_create.proofs.Names.{◌≡◌, ◌∙◌, ℕ, List, [], ◌∷◌, Bool, true, false, not, map, refl, ap, rules, cond, string_bytes, Some, is_some, IfSome, filter_map, IfOk-weaker, cons_option, AllByRecursion, at_none, is_input_name, BadName, YieldsList-from_slice, items_from_collect, Option, None, YieldsList-at, YieldsList-from_filter_map}
 use Rattle.par2_create.proofs.create.input_names.Goals as goal
 
 -- the name that an argument is

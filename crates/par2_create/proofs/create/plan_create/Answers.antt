@@ -1,12 +1,4 @@
-use Rattle.par2_create.proofs.Common.{◌≡◌, ◌∙◌, ◌∷◌, inr, refl, sym, ap, ap₂, subst, true, Some, List, ℕ, map, string_bytes, None, Option, is_par_name, err_from_is_err_and, Folder, Create, CreateArgs, bad_name, early_refusal, refusal, after, create_args_of, Fault, Volume, long_name, existing, volumes_of, volume_names, output_names, are_applicable, effects, changes_of, create_applies, create_changes, ◌++◌, [], map-map, Change, put_change, recovery_packets, as_file, files_of, flat_map, head_fault, inputs_fault, ◌≤◌, ◌%◌, ◌^◌, length, length-map, packet, index_packets, main_id, record_of, in_id_order, all_slices, file_record_of, FileRecord, ◌+◌, RecordsInputs}
-use Rattle.par2_spec.proofs.EarlyLaws.{refused_early}
-use Rattle.par2_spec.proofs.FolderLaws.{create_leads}
-use Rattle.std.specs.List.{All}
-use Rattle.md5.proofs.StandardFacts.{length-md5}
-use Rattle.par2_create.specs.Records.{names_of}
-use Rattle.par2_create.proofs.FileRecords.{files_of_records}
-use Rattle.par2_create.proofs.Refusals.{IsHead, AreInputs, head_passed, inputs_passed, few_slices, few_in_order, early_by, refused_by}
-use Rattle.par2_create.proofs.VolumeLaws.{long_without_base, volumes_end, written, create_written}
+use Rattle.par2_create.proofs.Names.{◌≡◌, ◌∙◌, ◌∷◌, inr, refl, sym, ap, ap₂, subst, true, Some, List, ℕ, map, string_bytes, None, Option, is_par_name, err_from_is_err_and, Folder, Create, CreateArgs, bad_name, early_refusal, refusal, after, create_args_of, Fault, Volume, long_name, existing, volumes_of, volume_names, output_names, are_applicable, effects, changes_of, create_applies, create_changes, ◌++◌, [], map-map, Change, put_change, recovery_packets, as_file, files_of, flat_map, head_fault, inputs_fault, ◌≤◌, ◌%◌, ◌^◌, length, length-map, packet, index_packets, main_id, record_of, in_id_order, all_slices, file_record_of, FileRecord, ◌+◌, RecordsInputs, refused_early, create_leads, All, length-md5, names_of, files_of_records, IsHead, AreInputs, head_passed, inputs_passed, few_slices, few_in_order, early_by, refused_by, long_without_base, volumes_end, written, create_written}
 use Rattle.par2_create.proofs.create.plan_create.Goals.{In-Some, After-existing, In_ok-push_files}
 use Rattle.par2_spec.proofs.ListsLaws as passed
 use Rattle.par2_create.proofs.create.plan_create.Goals as goal

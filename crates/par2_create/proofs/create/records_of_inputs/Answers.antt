@@ -1,7 +1,4 @@
-use Rattle.par2_create.proofs.Common.{◌≡◌, ◌∙◌, ap, sym, refl, subst, inr, None, Option, Fault, DuplicateId, Some, map, string_bytes, files_of, input_file, inputs_fault, files_fault, ids_fault, duplicate_input, create_args_of, AreRecords, false≢true, buffers_of, Input}
-use Rattle.md5.specs.Md5.{md5}
-use Rattle.par2_create.proofs.FileRecords.{ids_accepted, ids_refused}
-use Rattle.par2_create.proofs.Refusals.{inputs_by}
+use Rattle.par2_create.proofs.Names.{◌≡◌, ◌∙◌, ap, sym, refl, subst, inr, None, Option, Fault, DuplicateId, Some, map, string_bytes, files_of, input_file, inputs_fault, files_fault, ids_fault, duplicate_input, create_args_of, AreRecords, false≢true, buffers_of, Input, md5, ids_accepted, ids_refused, inputs_by}
 use Rattle.par2_create.proofs.create.records_of_inputs.Goals.{In_ok-records}
 use Rattle.par2_create.proofs.create.records_of_inputs.Goals as goal
 

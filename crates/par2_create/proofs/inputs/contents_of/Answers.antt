@@ -1,6 +1,5 @@
-use Rattle.par2_create.proofs.Common.{rules, Bor, ℕ, List, Input, YieldsList-from_slice}
-use Rattle.std.proofs.lemmas.Iterator.{YieldsList-from_map_by}
-use Rattle.std.proofs.lemmas.Iterator.Consumers.{map_from_collect}
+use Rattle.par2_create.proofs.Names.{rules, ℕ, List, Input, YieldsList-from_slice, YieldsList-from_map_by, map_from_collect}
+use Rattle.par2_create.proofs.Common.{Bor}
 use Rattle.par2_create.proofs.inputs.contents_of.Goals as goal
 
 pub returns : goal.returns

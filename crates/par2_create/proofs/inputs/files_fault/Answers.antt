@@ -1,6 +1,4 @@
-use Rattle.par2_create.proofs.Common.{◌≡◌, ◌+◌, ◌∙◌, ◌==◌, ◌&&◌, not, length, has, position, Input, ap, refl, arith, rules, tests, Some, NoSuchFile, EmptyFile, TooManySlices, None, YieldsList-from_slice}
-use Rattle.std.proofs.lemmas.Iterator.Search.{position_from_yields_List}
-use Rattle.par2_create.proofs.Refusals.{files_by, too_many_by}
+use Rattle.par2_create.proofs.Names.{◌≡◌, ◌+◌, ◌∙◌, ◌==◌, ◌&&◌, not, length, has, position, Input, ap, refl, arith, rules, tests, Some, NoSuchFile, EmptyFile, TooManySlices, None, YieldsList-from_slice, position_from_yields_List, files_by, too_many_by}
 use Rattle.par2_create.proofs.inputs.files_fault.Goals.{In_default}
 use Rattle.par2_create.proofs.inputs.files_fault.Goals as goal
 

@@ -1,6 +1,4 @@
-use Rattle.par2_create.proofs.Common.{rules, List, ℕ, bytes_of, input_file, YieldsList-from_slice}
-use Rattle.std.proofs.lemmas.Iterator.{YieldsList-from_map_by}
-use Rattle.std.proofs.lemmas.Iterator.Consumers.{map_from_collect}
+use Rattle.par2_create.proofs.Names.{rules, List, ℕ, bytes_of, input_file, YieldsList-from_slice, YieldsList-from_map_by, map_from_collect}
 use Rattle.par2_create.proofs.inputs.inputs_in.Goals as goal
 
 pub returns : goal.returns

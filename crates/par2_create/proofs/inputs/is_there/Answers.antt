@@ -1,6 +1,4 @@
-use Rattle.par2_create.proofs.Common.{◌≡◌, ◌∙◌, ◌||◌, sym, ap, false, rules, tests, list_any, has, volume_names, Volume, YieldsList-from_slice}
-use Rattle.std.proofs.lemmas.Iterator.Search.{any_from_yields_List}
-use Rattle.par2_create.proofs.VolumeLaws.{any_named}
+use Rattle.par2_create.proofs.Names.{◌≡◌, ◌∙◌, ◌||◌, sym, ap, false, rules, tests, list_any, has, volume_names, Volume, YieldsList-from_slice, any_from_yields_List, any_named}
 use Rattle.par2_create.proofs.inputs.is_there.Goals as goal
 
 pub returns-else-is_some : goal.returns-else-is_some

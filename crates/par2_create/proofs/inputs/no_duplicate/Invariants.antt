@@ -1,5 +1,4 @@
-use Rattle.par2_create.proofs.Common.{◌≡◌, ◌<◌, ℕ, false, take, HoldsNames}
-use Rattle.par2_create.proofs.Refusals.{comes_again}
+use Rattle.par2_create.proofs.Names.{◌≡◌, ◌<◌, ℕ, false, take, HoldsNames, comes_again}
 use Rattle.par2_create.proofs.inputs.no_duplicate.Given as goal
 
 abbrev pub invariant-loop-i : goal.invariant-loop-i

@@ -1,6 +1,4 @@
-use Rattle.par2_create.proofs.Common.{◌≡◌, ◌<◌, refl, sym, subst, inl, inr, length, true, rules, cases_lt, false≢true, is_utf8, is_name, volume_at}
-use Rattle.std.proofs.lemmas.Str.{is_utf8-from_IsUtf8}
-use Rattle.par2_create.proofs.VolumeLaws.{volume_is_name}
+use Rattle.par2_create.proofs.Names.{◌≡◌, ◌<◌, refl, sym, subst, inl, inr, length, true, rules, cases_lt, false≢true, is_utf8, is_name, volume_at, is_utf8-from_IsUtf8, volume_is_name}
 use Rattle.par2_create.proofs.inputs.volume_at.Goals as goal
 
 pub returns-clause-refused : goal.returns-clause-refused

@@ -1,5 +1,4 @@
-use Rattle.par2_create.proofs.Common.{◌≡◌, subst, arith, None, long_name, volume_names}
-use Rattle.par2_create.proofs.VolumeLaws.{volumes_below}
+use Rattle.par2_create.proofs.Names.{◌≡◌, subst, arith, None, long_name, volume_names, volumes_below}
 use Rattle.par2_create.proofs.inputs.volumes.Goals as goal
 
 pub returns-clause-short : goal.returns-clause-short

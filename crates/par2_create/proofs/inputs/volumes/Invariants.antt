@@ -1,5 +1,4 @@
-use Rattle.par2_create.proofs.Common.{◌≡◌, None, long_name, volume_names}
-use Rattle.par2_create.proofs.VolumeLaws.{volumes_below}
+use Rattle.par2_create.proofs.Names.{◌≡◌, None, long_name, volume_names, volumes_below}
 use Rattle.par2_create.proofs.inputs.volumes.Given as goal
 
 abbrev pub invariant-loop-i : goal.invariant-loop-i

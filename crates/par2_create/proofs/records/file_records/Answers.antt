@@ -1,5 +1,4 @@
-use Rattle.par2_create.proofs.Common.{◌∙◌, ap, record_of}
-use Rattle.par2_create.proofs.FileRecords.{digest_at, record_push}
+use Rattle.par2_create.proofs.Names.{◌∙◌, ap, record_of, digest_at, record_push}
 use Rattle.par2_create.proofs.records.file_records.Goals as goal
 
 pub file_record_by_md5-requires-clause-digest : goal.file_record_by_md5-requires-clause-digest

@@ -1,5 +1,4 @@
-use Rattle.par2_create.proofs.Common.{sym}
-use Rattle.par2_create.proofs.IndexBytes.{index_bytes, appended_all, appended_next}
+use Rattle.par2_create.proofs.Names.{sym, index_bytes, appended_all, appended_next}
 use Rattle.par2_create.proofs.records.index_of.Goals as goal
 
 pub loop-file-preserved : goal.loop-file-preserved

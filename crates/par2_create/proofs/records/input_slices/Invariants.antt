@@ -1,5 +1,4 @@
-use Rattle.par2_create.proofs.Common.{◌≡◌, map, take, padded, all_slices, files_of, buffers_of}
-use Rattle.par2_create.specs.Records.{names_of}
+use Rattle.par2_create.proofs.Names.{◌≡◌, map, take, padded, all_slices, files_of, buffers_of, names_of}
 use Rattle.par2_create.proofs.records.input_slices.Given as goal
 
 abbrev pub invariant-loop-i : goal.invariant-loop-i

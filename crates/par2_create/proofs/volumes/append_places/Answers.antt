@@ -1,5 +1,4 @@
-use Rattle.par2_create.proofs.Common.{◌≡◌, ◌<◌, ◌^◌, arith, ◌∙◌, ◌+◌, ◌*◌, length, rules, ◌++◌, ◌∷◌, [], ℕ, List, map, sym, ap, append_assoc, zero-add, range_with_len, map-range_with_len_more, Place, place_in}
-use Rattle.par2_create.proofs.VolumeLaws.{packet_ends}
+use Rattle.par2_create.proofs.Names.{◌≡◌, ◌<◌, ◌^◌, arith, ◌∙◌, ◌+◌, ◌*◌, length, rules, ◌++◌, ◌∷◌, [], ℕ, List, map, sym, ap, append_assoc, zero-add, range_with_len, map-range_with_len_more, Place, place_in, packet_ends}
 use Rattle.par2_create.proofs.volumes.append_places.Goals as goal
 
 pub loop-k-preserved : goal.loop-k-preserved

@@ -1,5 +1,4 @@
-use Rattle.par2_create.proofs.Common.{◌≡◌, ◌∙◌, ◌++◌, List, ℕ, length, ap, arith, rules, flat_map, range_with_len, on_ok_weaker, undigested, slice_of}
-use Rattle.par2_create.proofs.VolumeLaws.{behind_index, index_kept, length-packets, packets_digested}
+use Rattle.par2_create.proofs.Names.{◌≡◌, ◌∙◌, ◌++◌, List, ℕ, length, ap, arith, rules, flat_map, range_with_len, on_ok_weaker, undigested, slice_of, behind_index, index_kept, length-packets, packets_digested}
 use Rattle.par2_create.proofs.volumes.digest_volume.Goals as goal
 
 pub digest_recoveries-requires-clause-packets : goal.digest_recoveries-requires-clause-packets

@@ -1,6 +1,4 @@
-use Rattle.par2_create.proofs.Common.{◌≡◌, ◌<◌, ◌∙◌, [], List, ℕ, Vec, Global, length, get_or, sym, ap, ap₂, arith, zero-add, length-map, length-replicate, get_or-map, get_or_default, enumerate_from, length-enumerate_from, get_or-enumerate_from, blank_volume, places_in, Volume}
-use Rattle.par2_create.proofs.IndexBytes.{appended_all, appended_next}
-use Rattle.par2_create.proofs.VolumeLaws.{length-volume}
+use Rattle.par2_create.proofs.Names.{◌≡◌, ◌<◌, ◌∙◌, [], List, ℕ, Vec, Global, length, get_or, sym, ap, ap₂, arith, zero-add, length-map, length-replicate, get_or-map, get_or_default, enumerate_from, length-enumerate_from, get_or-enumerate_from, blank_volume, places_in, Volume, appended_all, appended_next, length-volume}
 use Rattle.par2_create.proofs.volumes.places.Goals as goal
 
 pub append_places-requires : goal.append_places-requires

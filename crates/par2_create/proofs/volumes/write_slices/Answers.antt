@@ -1,6 +1,4 @@
-use Rattle.par2_create.proofs.Common.{◌≡◌, ◌∙◌, ◌*◌, ◌/◌, List, ℕ, map, ap, sym, length, subst, arith, on_ok_weaker, padded, lists_of, Place, AreWritten, buffers_of}
-use Rattle.std.specs.Borrow.{Bor}
-use Rattle.par2_create.proofs.VolumeLaws.{length-places, places_apart, places_blank, places_within, volumes_written}
+use Rattle.par2_create.proofs.Names.{◌≡◌, ◌∙◌, ◌*◌, ◌/◌, List, ℕ, map, ap, sym, length, subst, arith, on_ok_weaker, padded, lists_of, Place, AreWritten, buffers_of, Bor, length-places, places_apart, places_blank, places_within, volumes_written}
 use Rattle.par2_create.proofs.volumes.write_slices.Goals as goal
 
 pub new-outputs-requires : goal.new-outputs-requires

@@ -1,8 +1,4 @@
-use Rattle.std.proofs.Common.{None}
-use Rattle.std.proofs.lemmas.Fn.{FoldsTo-push}
-use Rattle.std.proofs.lemmas.List.{append-nil}
-use Rattle.par2_disk.proofs.Common.{Some, arith, subst, sym}
-use Rattle.par2_disk.specs.Runtime.{IsCounted}
+use Rattle.par2_disk.proofs.Names.{None, FoldsTo-push, append-nil, Some, arith, subst, sym, IsCounted}
 use Rattle.par2_disk.proofs.current.names_listed.Goals as goal
 
 pub loop-item-preserved-in-Continue-branch-4 : goal.loop-item-preserved-in-Continue-branch-4

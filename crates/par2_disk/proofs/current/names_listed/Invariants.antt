@@ -1,6 +1,4 @@
-use Rattle.par2_disk.proofs.Common.{[]}
-use Rattle.std.specs.List.{FoldsTo}
-use Rattle.par2_disk.specs.Runtime.{Adds}
+use Rattle.par2_disk.proofs.Names.{[], FoldsTo, Adds}
 use Rattle.par2_disk.proofs.current.names_listed.Given as goal
 
 abbrev pub invariant-loop-item : goal.invariant-loop-item

@@ -1,6 +1,4 @@
-use Rattle.par2_disk.proofs.Common.{◌≡◌, ◌≤◌, ℕ, List, ◌++◌, length, take, drop, arith, ◌∙◌}
-use Rattle.std.proofs.lemmas.List.{take-take, take-append-le}
-use Rattle.std.proofs.KnownBytes.{Consumes-kept, Consumes-trans}
+use Rattle.par2_disk.proofs.Names.{◌≡◌, ◌≤◌, ℕ, List, ◌++◌, length, take, drop, arith, ◌∙◌, take-take, take-append-le, Consumes-kept, Consumes-trans}
 use Rattle.par2_disk.proofs.current.read_within.Goals.{in-Ok+in_ok-extend_from_slice-in-Ok, in-Err}
 use Rattle.par2_disk.proofs.current.read_within.Goals as goal
 

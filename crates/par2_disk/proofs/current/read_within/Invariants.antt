@@ -1,5 +1,4 @@
-use Rattle.par2_disk.proofs.Common.{◌<◌, vec_len}
-use Rattle.std.specs.Io.KnownBytes.{Consumes}
+use Rattle.par2_disk.proofs.Names.{◌<◌, vec_len, Consumes}
 use Rattle.par2_disk.proofs.current.read_within.Given as goal
 
 abbrev pub invariant-loop : goal.invariant-loop

@@ -1,7 +1,5 @@
-use Rattle.par2_disk.proofs.Common.{◌∙◌, ◌≡◌, ◌<◌, ◌≤◌, length, get_or, Some, ap, subst, arith, entries, names}
+use Rattle.par2_disk.proofs.Names.{◌∙◌, ◌≡◌, ◌<◌, ◌≤◌, length, get_or, Some, ap, subst, arith, entries, names, begins_empty, still_there, next_file, is_whole, Contents}
 use Rattle.std.specs.FinMap as map_of
-use Rattle.par2_files.proofs.SortedFiles.{begins_empty, still_there, next_file, is_whole}
-use Rattle.par2_spec.specs.Prelude.{Contents}
 use Rattle.par2_disk.proofs.Steps.{IsWrittenAs, tried as tried_by, reads_on}
 use Rattle.par2_disk.proofs.disk.read_folder.Goals as goal
 

@@ -1,5 +1,4 @@
-use Rattle.par2_files.proofs.Common.{◌∙◌, ◌≡◌, [], ap, rules, Some, sym, get_or_default, File}
-use Rattle.par2_files.proofs.SortedFiles.{exchanged, bytes_at}
+use Rattle.par2_files.proofs.Names.{◌∙◌, ◌≡◌, [], ap, rules, Some, sym, get_or_default, File, exchanged, bytes_at}
 use Rattle.par2_files.proofs.folder.exchange_at.Goals as goal
 
 pub returns : goal.returns

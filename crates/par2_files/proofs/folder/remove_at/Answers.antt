@@ -1,5 +1,4 @@
-use Rattle.par2_files.proofs.Common.{◌∙◌, [], ap, Some, sym, get_or_default}
-use Rattle.par2_files.proofs.SortedFiles.{removed, bytes_at}
+use Rattle.par2_files.proofs.Names.{◌∙◌, [], ap, Some, sym, get_or_default, removed, bytes_at}
 use Rattle.par2_files.proofs.folder.remove_at.Goals as goal
 
 pub returns-clause-bytes : goal.returns-clause-bytes

@@ -1,5 +1,4 @@
-use Rattle.par2_files.proofs.Common.{rules, of_calls, always_returns_same, name_cmp}
-use Rattle.par2_files.proofs.SortedFiles.{searched_folder}
+use Rattle.par2_files.proofs.Names.{rules, of_calls, always_returns_same, name_cmp, searched_folder}
 use Rattle.par2_files.proofs.folder.search.Goals as goal
 
 pub returns : goal.returns

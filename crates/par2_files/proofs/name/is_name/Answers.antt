@@ -1,5 +1,4 @@
-use Rattle.par2_files.proofs.Common.{arith}
-use Rattle.par2_files.proofs.Lists.{name_parts}
+use Rattle.par2_files.proofs.Names.{arith, name_parts}
 use Rattle.par2_files.proofs.name.is_name.Goals as goal
 
 pub returns-clause-name : goal.returns-clause-name

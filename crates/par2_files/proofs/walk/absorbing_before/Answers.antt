@@ -1,5 +1,4 @@
-use Rattle.par2_files.proofs.Common.{arith, ◌≡◌, ◌+◌, ◌∙◌, Bool, true, false, [], ◌∷◌, IsTrue, ap, cond, map, subst, sym, append-nil, are_applicable, change_of, bytes_before, touches, group_buffers, AreTo, HaveAbsorbed, folder_in}
-use Rattle.par2_files.proofs.Walks.{absorbed_here, arrived, goes_on, in_range, next_applicable, parents_then}
+use Rattle.par2_files.proofs.Names.{arith, ◌≡◌, ◌+◌, ◌∙◌, Bool, true, false, [], ◌∷◌, IsTrue, ap, cond, map, subst, sym, append-nil, are_applicable, change_of, bytes_before, touches, group_buffers, AreTo, HaveAbsorbed, folder_in, absorbed_here, arrived, goes_on, in_range, next_applicable, parents_then}
 use Rattle.par2_files.proofs.walk.absorbing_before.Goals.{After-is_after-in-loop-change, then-is_after, else-is_after, then-is_after-2+in_ok-pending_between-2+in_ok-push-2, else-is_after-2}
 use Rattle.par2_files.proofs.walk.absorbing_before.Goals as goal
 

@@ -1,5 +1,4 @@
-use Rattle.par2_files.proofs.Common.{drop}
-use Rattle.par2_files.proofs.Walks.{IsWithin}
+use Rattle.par2_files.proofs.Names.{drop, IsWithin}
 use Rattle.par2_files.proofs.walk.absorbing_before.Given as goal
 
 abbrev pub invariant-loop-change : goal.invariant-loop-change

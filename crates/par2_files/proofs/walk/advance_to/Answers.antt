@@ -1,5 +1,4 @@
-use Rattle.par2_files.proofs.Common.{refl, arith}
-use Rattle.par2_files.proofs.Walks.{behind, moved}
+use Rattle.par2_files.proofs.Names.{refl, arith, behind, moved}
 use Rattle.par2_files.proofs.walk.advance_to.Goals as goal
 
 pub returns : goal.returns

@@ -1,7 +1,4 @@
-use Rattle.par2_files.specs.declared.change.Change.TheVariants.{Remove}
-use Rattle.par2_files.proofs.Common.{◌≡◌, false, is_before, ◌-◌, ◌∙◌, [], ◌∷◌, ap, length, drop, arith, subst, sym, length-drop, take_all, HasAbsorbed, HaveAbsorbed, buffers_of, bytes_before, folder_in, At}
-use Rattle.par2_files.proofs.SortedFiles.{further}
-use Rattle.par2_files.proofs.Walks.{absorbed_at, absorbed_behind, as_many, in_range}
+use Rattle.par2_files.proofs.Names.{Remove, ◌≡◌, false, is_before, ◌-◌, ◌∙◌, [], ◌∷◌, ap, length, drop, arith, subst, sym, length-drop, take_all, HasAbsorbed, HaveAbsorbed, buffers_of, bytes_before, folder_in, At, further, absorbed_at, absorbed_behind, as_many, in_range}
 use Rattle.par2_files.proofs.walk.checkpoint_at.Goals.{After-deref}
 use Rattle.par2_files.proofs.walk.checkpoint_at.Goals as goal
 

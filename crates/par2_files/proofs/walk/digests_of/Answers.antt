@@ -1,5 +1,4 @@
-use Rattle.par2_files.proofs.Common.{ap, arith, map, ◌∙◌, take_all, md5}
-use Rattle.par2_files.proofs.Walks.{absorbed_at, as_many, digested_more}
+use Rattle.par2_files.proofs.Names.{ap, arith, map, ◌∙◌, take_all, md5, absorbed_at, as_many, digested_more}
 use Rattle.par2_files.proofs.walk.digests_of.Goals as goal
 
 pub loop-state-preserved : goal.loop-state-preserved

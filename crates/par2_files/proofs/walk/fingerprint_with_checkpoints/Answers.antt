@@ -1,7 +1,5 @@
-use Rattle.std.proofs.Common.{inr}
-use Rattle.par2_files.proofs.Common.{◌≡◌, ◌⊎◌, ℕ, List, false, false≢true, Split, Beginning, comes_before, inl, refl, HasAbsorbed, ◌<◌, length, ap, arith, subst, sym, ◌∙◌, append-nil, entries, take_all, md5, fingerprint, files_in, folder_in}
-use Rattle.par2_files.proofs.SortedFiles.{taken_on, files_of, no_bytes}
-use Rattle.par2_files.proofs.Walks.{fingerprint_is}
+use Rattle.par2_files.proofs.Names.{inr, ◌≡◌, ◌⊎◌, ℕ, List, false, false≢true, Split, Beginning, comes_before, inl, refl, HasAbsorbed, ◌<◌, length, ap, arith, subst, sym, ◌∙◌, append-nil, entries, take_all, md5, fingerprint, files_in, folder_in, taken_on, files_of, fingerprint_is}
+use Rattle.par2_files.proofs.SortedFiles.{no_bytes}
 use Rattle.par2_files.proofs.walk.fingerprint_with_checkpoints.Goals.{then-comes_before+in_ok-progress+in_ok-mark, else-comes_before}
 use Rattle.par2_files.proofs.walk.fingerprint_with_checkpoints.Goals as goal
 

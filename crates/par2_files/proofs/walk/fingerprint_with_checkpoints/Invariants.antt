@@ -1,5 +1,4 @@
-use Rattle.par2_files.proofs.Common.{◌≡◌, ◌⊎◌, ◌<◌, length, AreCheckpointsOf, folder_in, Beginning}
-use Rattle.par2_files.specs.Checkpoints.{IsAt}
+use Rattle.par2_files.proofs.Names.{◌≡◌, ◌⊎◌, ◌<◌, length, AreCheckpointsOf, folder_in, Beginning, IsAt}
 use Rattle.par2_files.proofs.walk.fingerprint_with_checkpoints.Given as goal
 
 abbrev pub invariant-loop-name : goal.invariant-loop-name

@@ -1,5 +1,4 @@
-use Rattle.par2_files.proofs.Common.{common_steps, ◌≡◌, ◌∷◌, ◌++◌, ◌-◌, ◌∙◌, ℕ, Bor, List, ap, length, map, take, drop, arith, drop-append_seam, take-append_seam, length-append, length-map, map-append, md5, buffers_of, fingerprint, folders_after, taken_are_applicable, group_buffers, change_of, End}
-use Rattle.par2_files.proofs.Walks.{all_fingerprints}
+use Rattle.par2_files.proofs.Names.{common_steps, ◌≡◌, ◌∷◌, ◌++◌, ◌-◌, ◌∙◌, ℕ, Bor, List, ap, length, map, take, drop, arith, drop-append_seam, take-append_seam, length-append, length-map, map-append, md5, buffers_of, fingerprint, folders_after, taken_are_applicable, group_buffers, change_of, End, all_fingerprints}
 use Rattle.par2_files.proofs.walk.fingerprints.Goals as goal
 
 pub absorbing_before-requires-clause-applicable : goal.absorbing_before-requires-clause-applicable

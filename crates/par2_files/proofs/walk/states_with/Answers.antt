@@ -1,5 +1,4 @@
-use Rattle.par2_files.proofs.Common.{[], subst, AreTo}
-use Rattle.par2_files.proofs.Walks.{bytes_more}
+use Rattle.par2_files.proofs.Names.{[], subst, AreTo, bytes_more}
 use Rattle.par2_files.proofs.walk.states_with.Goals as goal
 
 pub loop-bytes-preserved : goal.loop-bytes-preserved

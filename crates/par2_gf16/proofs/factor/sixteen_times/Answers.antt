@@ -1,5 +1,4 @@
-use Rattle.par2_gf16.proofs.Common.{◌∙◌, ap, mul}
-use Rattle.par2_gf16.proofs.Words.{four_doublings}
+use Rattle.par2_gf16.proofs.Names.{◌∙◌, ap, mul, four_doublings}
 use Rattle.par2_gf16.proofs.factor.sixteen_times.Goals as goal
 
 pub returns : goal.returns

@@ -1,5 +1,4 @@
-use Rattle.par2_gf16.proofs.Common.{◌∙◌, map-map, pick_l_left, get_or, lane_of, range_with_len}
-use Rattle.par2_gf16.proofs.Words.{lanes}
+use Rattle.par2_gf16.proofs.Names.{◌∙◌, map-map, pick_l_left, get_or, lane_of, range_with_len, lanes}
 use Rattle.par2_gf16.proofs.lanes.exchanged.Goals as goal
 
 pub returns : goal.returns

@@ -1,5 +1,4 @@
-use Rattle.par2_gf16.proofs.Common.{◌/◌, arith}
-use Rattle.par2_gf16.proofs.Words.{shifted, small_places}
+use Rattle.par2_gf16.proofs.Names.{◌/◌, arith, shifted, small_places}
 use Rattle.par2_gf16.proofs.lanes.high_nibbles.Goals as goal
 
 pub returns-clause-value : goal.returns-clause-value

@@ -1,5 +1,4 @@
-use Rattle.par2_gf16.proofs.Common.{◌/◌, ◌<◌, replicate, map, ◌∙◌, ap, arith, w8, w16, Fits, Each1-zip2, Each2-splat, Each1-weaker, zip2_splat, map-map, below_from_Fits}
-use Rattle.par2_gf16.proofs.Words.{down}
+use Rattle.par2_gf16.proofs.Names.{◌/◌, ◌<◌, replicate, map, ◌∙◌, ap, arith, w8, w16, Fits, Each1-zip2, Each2-splat, Each1-weaker, zip2_splat, map-map, below_from_Fits, down}
 use Rattle.par2_gf16.proofs.lanes.higher_bytes.Goals as goal
 
 pub overflow_cast-result : goal.overflow_cast-result

@@ -1,5 +1,4 @@
-use Rattle.par2_gf16.proofs.Common.{◌%◌, arith}
-use Rattle.par2_gf16.proofs.Words.{masked, small_places}
+use Rattle.par2_gf16.proofs.Names.{◌%◌, arith, masked, small_places}
 use Rattle.par2_gf16.proofs.lanes.low_nibbles.Goals as goal
 
 pub returns-clause-value : goal.returns-clause-value

@@ -1,6 +1,4 @@
-use Rattle.par2_gf16.proofs.Common.{◌%◌, replicate, map, ◌∙◌, ap, arith, w8, Fits, and_mask, Each1-zip2, Each2-splat, Each1-all, zip2_splat, map-map}
-use lib.Bits.{bit_and, and_le_r}
-use Rattle.par2_gf16.proofs.Words.{map_all}
+use Rattle.par2_gf16.proofs.Names.{◌%◌, replicate, map, ◌∙◌, ap, arith, w8, Fits, and_mask, Each1-zip2, Each2-splat, Each1-all, zip2_splat, map-map, bit_and, and_le_r, map_all}
 use Rattle.par2_gf16.proofs.lanes.lower_bytes.Goals as goal
 
 pub overflow_cast-result : goal.overflow_cast-result

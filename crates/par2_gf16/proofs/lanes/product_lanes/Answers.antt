@@ -1,5 +1,4 @@
-use Rattle.par2_gf16.proofs.Common.{◌/◌, ◌^◌, ◌∙◌, ap, arith, length, length-map, splat_is_map, zip2_splat}
-use Rattle.par2_gf16.proofs.Words.{down, lanes_start, lanes_step, lanes_done}
+use Rattle.par2_gf16.proofs.Names.{◌/◌, ◌^◌, ◌∙◌, ap, arith, length, length-map, splat_is_map, zip2_splat, down, lanes_start, lanes_step, lanes_done}
 use Rattle.par2_gf16.proofs.lanes.product_lanes.Goals as goal
 
 pub loop-j-init : goal.loop-j-init

@@ -1,5 +1,4 @@
-use Rattle.par2_gf16.proofs.Common.{[], ◌∷◌, arith, length-append}
-use Rattle.par2_gf16.proofs.Words.{all_vectors, next_vector}
+use Rattle.par2_gf16.proofs.Names.{[], ◌∷◌, arith, length-append, all_vectors, next_vector}
 use Rattle.par2_gf16.proofs.vectors.vectors_of.Goals as goal
 
 pub loop-k-preserved : goal.loop-k-preserved

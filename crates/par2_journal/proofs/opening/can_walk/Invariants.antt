@@ -1,5 +1,4 @@
-use Rattle.par2_journal.proofs.Common.{leads, List, Bor, Change, names_in}
-use Rattle.par2_journal.proofs.TriedNames.{IsSoFar}
+use Rattle.par2_journal.proofs.Names.{leads, List, Bor, Change, names_in, IsSoFar}
 use Rattle.par2_journal.proofs.opening.can_walk.Given as goal
 
 abbrev pub invariant-loop-entry : goal.invariant-loop-entry

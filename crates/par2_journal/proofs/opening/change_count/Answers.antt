@@ -1,7 +1,4 @@
-use Rattle.std.proofs.Common.{ap₂}
-use Rattle.par2_journal.proofs.Common.{Change, List, ◌+◌, take_all, length, sym, ap, ◌∙◌, arith}
-use Rattle.std.specs.List.{sum_by}
-use Rattle.std.proofs.lemmas.List.Sums.{sum_by_more, sum_by_more_le}
+use Rattle.par2_journal.proofs.Names.{ap₂, Change, List, ◌+◌, take_all, length, sym, ap, ◌∙◌, arith, sum_by, sum_by_more, sum_by_more_le}
 use Rattle.par2_journal.proofs.opening.change_count.Goals as goal
 
 pub loop-entry-preserved : goal.loop-entry-preserved

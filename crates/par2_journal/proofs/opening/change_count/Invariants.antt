@@ -1,5 +1,4 @@
-use Rattle.par2_journal.proofs.Common.{◌≡◌, length, take}
-use Rattle.std.specs.List.{sum_by}
+use Rattle.par2_journal.proofs.Names.{◌≡◌, length, take, sum_by}
 use Rattle.par2_journal.proofs.opening.change_count.Given as goal
 
 abbrev pub invariant-loop-entry : goal.invariant-loop-entry

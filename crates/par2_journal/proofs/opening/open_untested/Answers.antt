@@ -1,5 +1,4 @@
-use Rattle.par2_journal.proofs.Common.{None, Some, sym, ap, ◌∙◌, halfway_of, journal_of, opened_by_part}
-use Rattle.par2_journal.proofs.Openings.{by_journal, not_decoded, opened_with}
+use Rattle.par2_journal.proofs.Names.{None, Some, sym, ap, ◌∙◌, halfway_of, journal_of, opened_by_part, by_journal, not_decoded, opened_with}
 use Rattle.par2_journal.proofs.opening.open_untested.Goals as goal
 
 pub returns-in-Err : goal.returns-in-Err

@@ -1,6 +1,4 @@
-use Rattle.par2_journal.proofs.Common.{◌≡◌, sym, ap, subst, ◌∙◌, IfOk, is_valid, halfway_of, journal_of, session_at}
-use Rattle.par2_spec.proofs.ListsLaws.{none_if}
-use Rattle.par2_journal.proofs.Openings.{settled_as_is}
+use Rattle.par2_journal.proofs.Names.{◌≡◌, sym, ap, subst, ◌∙◌, IfOk, is_valid, halfway_of, journal_of, session_at, none_if, settled_as_is}
 use Rattle.par2_journal.proofs.opening.opens_as_is.Goals as goal
 
 pub returns-clause-opens : goal.returns-clause-opens

@@ -1,6 +1,4 @@
-use Rattle.par2_journal.proofs.Common.{◌≡◌, ◌≤◌, length, take, drop, sym, subst, arith, IfOk, reverse, is_valid, leads, session_at, and_parts, leading_walks}
-use Rattle.par2_journal.proofs.Readiness.{places_before, places_behind, places_counted}
-use Rattle.std.specs.List.{sum_by}
+use Rattle.par2_journal.proofs.Names.{◌≡◌, ◌≤◌, length, take, drop, sym, subst, arith, IfOk, reverse, is_valid, leads, session_at, and_parts, leading_walks, places_before, places_behind, places_counted, sum_by}
 use Rattle.par2_journal.proofs.opening.settle.Goals as goal
 
 pub returns-clause-walks : goal.returns-clause-walks

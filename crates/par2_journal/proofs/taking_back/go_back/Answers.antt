@@ -1,9 +1,6 @@
-use Rattle.par2_journal.proofs.Common.{◌≡◌, ◌≤◌, ◌-◌, take, drop, true, Bool, inr, refl, length, sym, ap, ◌∙◌, arith, pointwise, bytes_eq, length-map, not-false, not-true, FolderState, takes_all, are_applicable, takes_applicable, leads_through, change_of, changes_in}
+use Rattle.par2_journal.proofs.Names.{◌≡◌, ◌≤◌, ◌-◌, take, drop, true, Bool, inr, refl, length, sym, ap, ◌∙◌, arith, pointwise, bytes_eq, length-map, not-false, not-true, FolderState, takes_all, are_applicable, takes_applicable, leads_through, change_of, changes_in, goes, goes_not, each_after, places_within, went_forth}
 use Rattle.std.specs.Prelude.{List}
 use Rattle.par2_files.specs.declared.change.Change.{Change}
-use Rattle.par2_journal.proofs.Openings.{goes, goes_not}
-use Rattle.par2_journal.proofs.Readiness.{each_after, places_within}
-use Rattle.par2_journal.proofs.Entries.{went_forth}
 use Rattle.par2_journal.proofs.taking_back.go_back.Goals.{After-ne}
 use Rattle.par2_journal.proofs.taking_back.go_back.Goals as goal
 

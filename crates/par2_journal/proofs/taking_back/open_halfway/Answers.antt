@@ -1,6 +1,5 @@
-use Rattle.par2_journal.proofs.Common.{inr, refl, ◌≡◌, ◌-◌, ◌&&◌, true, false, Bool, List, Some, Ok, Err, length, drop, sym, ap, ◌∙◌, arith, drop-map, ⊎_map, Change, effects, is_valid, leads_through, change_of, changes_in, halfway_of, journal_of, session_at}
+use Rattle.par2_journal.proofs.Names.{inr, refl, ◌≡◌, ◌-◌, ◌&&◌, true, false, Bool, List, Some, Ok, Err, length, drop, sym, ap, ◌∙◌, arith, drop-map, ⊎_map, Change, effects, is_valid, leads_through, change_of, changes_in, halfway_of, journal_of, session_at, answer, halfway_is}
 use Rattle.par2_spec.specs.Opening as defined
-use Rattle.par2_journal.proofs.Openings.{answer, halfway_is}
 use Rattle.par2_journal.proofs.taking_back.open_halfway.Goals.{After-take_back}
 use Rattle.par2_journal.proofs.taking_back.open_halfway.Goals as goal
 

@@ -1,5 +1,4 @@
-use Rattle.par2_journal.proofs.Common.{◌≡◌, ◌&&◌, true, false, ap, subst, ◌∙◌, and_from, and_right, ⊎_map, FolderState, is_valid, changes_in, go_through, effects, session_at}
-use Rattle.par2_journal.proofs.Openings.{takes_roomier, same_files_after}
+use Rattle.par2_journal.proofs.Names.{◌≡◌, ◌&&◌, true, false, ap, subst, ◌∙◌, and_from, and_right, ⊎_map, FolderState, is_valid, changes_in, go_through, effects, session_at, takes_roomier, same_files_after}
 use Rattle.par2_journal.proofs.taking_back.take_back.Goals as goal
 
 pub apply_all-requires : goal.apply_all-requires

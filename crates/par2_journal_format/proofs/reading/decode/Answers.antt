@@ -1,5 +1,4 @@
-use Rattle.par2_journal_format.proofs.Common.{journal_of}
-use Rattle.par2_journal_format.proofs.Whole.{one_reading}
+use Rattle.par2_journal_format.proofs.Names.{journal_of, one_reading}
 use Rattle.par2_journal_format.proofs.reading.decode.Goals as goal
 
 pub returns-clause-only : goal.returns-clause-only

@@ -1,5 +1,4 @@
-use Rattle.par2_journal_format.proofs.Common.{rules, inr, refl, ◌≤◌, ◌<◌, ◌^◌, ◌∙◌, length, arith, err_from_is_err_and, journal_of, all_from}
-use Rattle.par2_journal_format.proofs.Whole.{refused, sealed, spells_sealed, too_short, untested}
+use Rattle.par2_journal_format.proofs.Names.{rules, inr, refl, ◌≤◌, ◌<◌, ◌^◌, ◌∙◌, length, arith, err_from_is_err_and, journal_of, all_from, refused, sealed, spells_sealed, too_short, untested}
 use Rattle.par2_journal_format.proofs.reading.decode_untested.Goals as goal
 
 pub returns-in_err-journal-clause-refused : goal.returns-in_err-journal-clause-refused

@@ -1,5 +1,4 @@
-use Rattle.par2_journal_format.proofs.Common.{err_from_is_err_and, change_of, change_at}
-use Rattle.par2_journal_format.proofs.Fields.{goes_on, stops, ends}
+use Rattle.par2_journal_format.proofs.Names.{err_from_is_err_and, change_of, change_at, goes_on, stops, ends}
 use Rattle.par2_journal_format.proofs.reading.read_changes.Goals as goal
 
 pub returns-in_err-change : goal.returns-in_err-change

@@ -1,5 +1,4 @@
-use Rattle.par2_journal_format.proofs.Common.{block_at}
-use Rattle.par2_journal_format.proofs.Fields.{SoFar}
+use Rattle.par2_journal_format.proofs.Names.{block_at, SoFar}
 use Rattle.par2_journal_format.proofs.reading.read_digests.Given as goal
 
 abbrev pub invariant-loop : goal.invariant-loop

@@ -1,5 +1,4 @@
-use Rattle.par2_journal_format.proofs.Common.{◌≡◌, ◌++◌, ◌∷◌, [], arith, err_from_is_err_and, entry_at}
-use Rattle.par2_journal_format.proofs.Fields.{goes_on, stops, ends}
+use Rattle.par2_journal_format.proofs.Names.{◌≡◌, ◌++◌, ◌∷◌, [], arith, err_from_is_err_and, entry_at, goes_on, stops, ends}
 use Rattle.par2_journal_format.proofs.reading.read_entries.Goals as goal
 
 pub returns-in_err-entry : goal.returns-in_err-entry

@@ -1,5 +1,4 @@
-use Rattle.par2_journal_format.proofs.Common.{◌≡◌, ◌<◌, length, get_or, ap, sym, ◌∙◌, arith, get_or-map, length-map, change_of, changes_in, IsChange, change_bytes}
-use Rattle.par2_journal_format.proofs.Fields.{wrote_more}
+use Rattle.par2_journal_format.proofs.Names.{◌≡◌, ◌<◌, length, get_or, ap, sym, ◌∙◌, arith, get_or-map, length-map, change_of, changes_in, IsChange, change_bytes, wrote_more}
 use Rattle.par2_journal_format.proofs.writing.append_changes.Goals as goal
 
 pub loop-change-preserved : goal.loop-change-preserved

@@ -1,5 +1,4 @@
-use Rattle.par2_journal_format.proofs.Common.{take, IsChange, change_bytes, changes_in}
-use Rattle.par2_journal_format.proofs.Fields.{AreWritten}
+use Rattle.par2_journal_format.proofs.Names.{take, IsChange, change_bytes, changes_in, AreWritten}
 use Rattle.par2_journal_format.proofs.writing.append_changes.Given as goal
 
 abbrev pub invariant-loop-change : goal.invariant-loop-change

@@ -1,5 +1,4 @@
-use Rattle.par2_journal_format.proofs.Common.{◌≡◌, ◌++◌, length, ap, subst, ◌∙◌, append_assoc, flat_map, w64, to_le_bytes, IsEntry, change_bytes, entry_bytes}
-use Rattle.par2_journal_format.proofs.Fields.{wrote_more}
+use Rattle.par2_journal_format.proofs.Names.{◌≡◌, ◌++◌, length, ap, subst, ◌∙◌, append_assoc, flat_map, w64, to_le_bytes, IsEntry, change_bytes, entry_bytes, wrote_more}
 use Rattle.par2_journal_format.proofs.writing.append_entries.Goals as goal
 
 pub loop-entry-preserved : goal.loop-entry-preserved

@@ -1,5 +1,4 @@
-use Rattle.par2_journal_format.proofs.Common.{take, IsEntry, entry_bytes}
-use Rattle.par2_journal_format.proofs.Fields.{AreWritten}
+use Rattle.par2_journal_format.proofs.Names.{take, IsEntry, entry_bytes, AreWritten}
 use Rattle.par2_journal_format.proofs.writing.append_entries.Given as goal
 
 abbrev pub invariant-loop-entry : goal.invariant-loop-entry

@@ -1,6 +1,5 @@
-use Rattle.par2_journal_format.proofs.Common.{◌≤◌, length, arith, leb-true}
+use Rattle.par2_journal_format.proofs.Names.{◌≤◌, length, arith, leb-true, name_is_short}
 use Rattle.par2_journal_format.proofs.writing.append_name.Goals as goal
-use Rattle.par2_spec.proofs.NameTests.{name_is_short}
 
 pub overflow_cast-string : goal.overflow_cast-string
 overflow_cast-string c =

@@ -1,5 +1,4 @@
-use Rattle.par2_journal_format.proofs.Common.{None, journal_from}
-use Rattle.par2_journal_format.proofs.Whole.{finished}
+use Rattle.par2_journal_format.proofs.Names.{None, journal_from, finished}
 use Rattle.par2_journal_format.proofs.writing.encode.Goals as goal
 
 pub returns : goal.returns

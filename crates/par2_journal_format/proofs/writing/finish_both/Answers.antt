@@ -1,5 +1,4 @@
-use Rattle.par2_journal_format.proofs.Common.{None, Some, journal_from, part_from}
-use Rattle.par2_journal_format.proofs.Whole.{finished}
+use Rattle.par2_journal_format.proofs.Names.{None, Some, journal_from, part_from, finished}
 use Rattle.par2_journal_format.proofs.writing.finish_both.Goals as goal
 
 pub returns-clause-halfway : goal.returns-clause-halfway

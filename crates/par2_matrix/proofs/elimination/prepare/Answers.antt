@@ -1,5 +1,4 @@
-use Rattle.par2_matrix.proofs.Common.{◌≡◌, ◌*◌, length, refl, rules, sym, ◌∙◌, arith, row_sum_empty}
-use Rattle.par2_matrix.proofs.Systems.{pivot_is, room_left}
+use Rattle.par2_matrix.proofs.Names.{◌≡◌, ◌*◌, length, refl, rules, sym, ◌∙◌, arith, row_sum_empty, pivot_is, room_left}
 use Rattle.par2_matrix.proofs.elimination.prepare.Goals as goal
 
 pub returns-in_err-q-clause-none : goal.returns-in_err-q-clause-none

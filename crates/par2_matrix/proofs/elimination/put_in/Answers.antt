@@ -1,5 +1,4 @@
-use Rattle.par2_matrix.proofs.Common.{◌≡◌, ◌∙◌, arith, length, rules, lists_of, length-lists_of}
-use Rattle.par2_matrix.proofs.Systems.{clear_step, clear_pass, put_at, place_within}
+use Rattle.par2_matrix.proofs.Names.{◌≡◌, ◌∙◌, arith, length, rules, lists_of, length-lists_of, clear_step, clear_pass, put_at, place_within}
 use Rattle.par2_matrix.proofs.elimination.put_in.Goals.{then-not-is_empty, else-not-is_empty}
 use Rattle.par2_matrix.proofs.elimination.put_in.Goals as goal
 

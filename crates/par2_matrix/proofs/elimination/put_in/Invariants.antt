@@ -1,5 +1,4 @@
-use Rattle.par2_matrix.proofs.Common.{lists_of}
-use Rattle.par2_matrix.proofs.Systems.{ClearedBelow}
+use Rattle.par2_matrix.proofs.Names.{lists_of, ClearedBelow}
 use Rattle.par2_matrix.proofs.elimination.put_in.Given as goal
 
 abbrev pub invariant-loop-p : goal.invariant-loop-p

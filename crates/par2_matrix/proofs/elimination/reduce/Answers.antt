@@ -1,5 +1,4 @@
-use Rattle.par2_matrix.proofs.Common.{◌<◌, length, rules, inl, inr, lists_of}
-use Rattle.par2_matrix.proofs.Systems.{reduce_add, reduce_pass}
+use Rattle.par2_matrix.proofs.Names.{◌<◌, length, rules, inl, inr, lists_of, reduce_add, reduce_pass}
 use Rattle.par2_matrix.proofs.elimination.reduce.Goals.{then-factor-ne0+then-not-is_empty, else-factor-ne0, else-factor-ne0-via-then-factor-ne0+else-not-is_empty, else-factor-ne0-via-else-factor-ne0}
 use Rattle.par2_matrix.proofs.elimination.reduce.Goals as goal
 

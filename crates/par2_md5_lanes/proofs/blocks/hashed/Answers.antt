@@ -1,5 +1,4 @@
-use Rattle.par2_md5_lanes.proofs.Common.{◌≡◌, ◌/◌, ◌∙◌, min, arith, ap, length, slice_index, bytes_left, hash_behind, lane}
-use Rattle.par2_md5_lanes.proofs.BlockLaws.{hash_more, same_rest, size_behind}
+use Rattle.par2_md5_lanes.proofs.Names.{◌≡◌, ◌/◌, ◌∙◌, min, arith, ap, length, slice_index, bytes_left, hash_behind, lane, hash_more, same_rest, size_behind}
 use Rattle.par2_md5_lanes.proofs.blocks.hashed.Goals as goal
 
 pub loop-feed-preserved : goal.loop-feed-preserved

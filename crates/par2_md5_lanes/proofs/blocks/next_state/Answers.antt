@@ -1,5 +1,4 @@
-use Rattle.par2_md5_lanes.proofs.Common.{◌≡◌, ◌∙◌, ◌∷◌, [], ℕ, ap, arith, slice_index, w32, add32, step_constants, step_shifts}
-use Rattle.std.specs.Int.{rotate_left}
+use Rattle.par2_md5_lanes.proofs.Names.{◌≡◌, ◌∙◌, ◌∷◌, [], ℕ, ap, arith, slice_index, w32, add32, step_constants, step_shifts, rotate_left}
 use Rattle.par2_md5_lanes.proofs.blocks.next_state.Goals as goal
 
 -- the round function added last or first

@@ -1,5 +1,4 @@
-use Rattle.par2_md5_lanes.proofs.Common.{buffer_at}
-use Rattle.par2_md5_lanes.proofs.BlockLaws.{words_of_quarters}
+use Rattle.par2_md5_lanes.proofs.Names.{buffer_at, words_of_quarters}
 use Rattle.par2_md5_lanes.proofs.blocks.read_words.Goals as goal
 
 pub returns : goal.returns

@@ -1,5 +1,4 @@
-use Rattle.par2_md5_lanes.proofs.Common.{◌≡◌, ◌+◌, ◌*◌, ◌%◌, ap, ap₂, arith, ◌∙◌, length, rules, slice_index, add32, f_fn, g_fn, h_fn, i_fn, lane_words, step_constants}
-use Rattle.par2_md5_lanes.proofs.LaneLaws.{word_of_lane, after_step, first, second, third, fourth}
+use Rattle.par2_md5_lanes.proofs.Names.{◌≡◌, ◌+◌, ◌*◌, ◌%◌, ap, ap₂, arith, ◌∙◌, length, rules, slice_index, add32, f_fn, g_fn, h_fn, i_fn, lane_words, step_constants, word_of_lane, after_step, first, second, third, fourth}
 use Rattle.par2_md5_lanes.proofs.blocks.step.Goals.{in-0, in-1, in-2, in_default}
 use Rattle.par2_md5_lanes.proofs.blocks.step.Goals as goal
 

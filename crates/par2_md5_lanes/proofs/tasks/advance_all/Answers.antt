@@ -1,5 +1,4 @@
-use Rattle.par2_md5_lanes.proofs.Common.{◌≢◌, ◌<◌, ℕ, List, ◌∙◌, [], ap, arith, length, length-set, get_or-set_other, get_or-set_same, hash_behind, digest_at, set}
-use Rattle.par2_md5_lanes.proofs.BlockLaws.{progress_more}
+use Rattle.par2_md5_lanes.proofs.Names.{◌≢◌, ◌<◌, ℕ, List, ◌∙◌, [], ap, arith, length, length-set, get_or-set_other, get_or-set_same, hash_behind, digest_at, set, progress_more}
 use Rattle.par2_md5_lanes.proofs.tasks.advance_all.Goals as goal
 
 pub loop-k-preserved : goal.loop-k-preserved

@@ -1,5 +1,4 @@
-use Rattle.par2_md5_lanes.proofs.Common.{◌+◌, ◌*◌, length, min, arith}
-use Rattle.par2_md5_lanes.proofs.BlockLaws.{buffers_more}
+use Rattle.par2_md5_lanes.proofs.Names.{◌+◌, ◌*◌, length, min, arith, buffers_more}
 use Rattle.par2_md5_lanes.proofs.tasks.buffer_digests.Goals as goal
 
 pub loop-group-preserved : goal.loop-group-preserved

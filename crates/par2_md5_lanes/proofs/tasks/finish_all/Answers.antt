@@ -1,5 +1,4 @@
-use Rattle.par2_md5_lanes.proofs.Common.{◌≡◌, ◌<◌, ◌∙◌, ℕ, List, arith, bytes_left, inl, inr, cases_eq, get_or, get_or-set_other, get_or-set_same, get_or_default, length, length-set, subst, LaneTask, Progresses}
-use Rattle.par2_md5_lanes.proofs.BlockLaws.{finished}
+use Rattle.par2_md5_lanes.proofs.Names.{◌≡◌, ◌<◌, ◌∙◌, ℕ, List, arith, bytes_left, inl, inr, cases_eq, get_or, get_or-set_other, get_or-set_same, get_or_default, length, length-set, subst, LaneTask, Progresses, finished}
 use Rattle.par2_md5_lanes.proofs.tasks.finish_all.Goals as goal
 
 pub loop-k-preserved : goal.loop-k-preserved

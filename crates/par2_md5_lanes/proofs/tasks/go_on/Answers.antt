@@ -1,5 +1,4 @@
-use Rattle.par2_md5_lanes.proofs.Common.{◌∙◌, ℕ, List, ap, arith, hash_behind}
-use Rattle.par2_md5_lanes.proofs.BlockLaws.{less_work, progress_twice, some_work}
+use Rattle.par2_md5_lanes.proofs.Names.{◌∙◌, ℕ, List, ap, arith, hash_behind, less_work, progress_twice, some_work}
 use Rattle.par2_md5_lanes.proofs.tasks.go_on.Goals as goal
 
 pub take_all-buffers-requires-clause-left : goal.take_all-buffers-requires-clause-left

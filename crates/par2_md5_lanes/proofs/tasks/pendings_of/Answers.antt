@@ -1,5 +1,4 @@
-use Rattle.par2_md5_lanes.proofs.Common.{◌≡◌, ◌++◌, ◌∷◌, ◌∙◌, [], ℕ, List, length, ap, append-nil, arith, cases_lt, get_or_append_left, get_or_push, inl, inr, length_push, sym, ◌+◌, HasAbsorbed, Pending, TakeAll, message_of, buffer_at}
-use Rattle.par2_md5_lanes.proofs.LaneLaws.{bytes_here}
+use Rattle.par2_md5_lanes.proofs.Names.{◌≡◌, ◌++◌, ◌∷◌, ◌∙◌, [], ℕ, List, length, ap, append-nil, arith, cases_lt, get_or_append_left, get_or_push, inl, inr, length_push, sym, ◌+◌, HasAbsorbed, Pending, TakeAll, message_of, buffer_at, bytes_here}
 use Rattle.par2_md5_lanes.proofs.tasks.pendings_of.Goals as goal
 
 -- one more state, which takes the next bytes

@@ -1,5 +1,4 @@
-use Rattle.par2_md5_lanes.proofs.Common.{◌≡◌, ◌<◌, ◌∙◌, arith, cases_eq, get_or, get_or-set_other, get_or-set_same, get_or-take, get_or_default, inl, inr, length, length-set, length-take-le, take, subst, sym, IsBegun, LaneTask}
-use Rattle.par2_md5_lanes.proofs.BlockLaws.{begun_takes}
+use Rattle.par2_md5_lanes.proofs.Names.{◌≡◌, ◌<◌, ◌∙◌, arith, cases_eq, get_or, get_or-set_other, get_or-set_same, get_or-take, get_or_default, inl, inr, length, length-set, length-take-le, take, subst, sym, IsBegun, LaneTask, begun_takes}
 use Rattle.par2_md5_lanes.proofs.tasks.states_behind.Goals as goal
 
 pub loop-k-preserved : goal.loop-k-preserved

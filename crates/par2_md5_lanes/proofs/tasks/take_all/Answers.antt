@@ -1,6 +1,4 @@
-use Rattle.par2_md5_lanes.proofs.Common.{◌≢◌, ◌<◌, ◌∙◌, ap, arith, cases_eq, get_or-set_other, inl, inr, length, length-set, hash_behind, buffer_at, set}
-use Rattle.par2_md5_lanes.proofs.LaneLaws.{bytes_set_other, bytes_set_same}
-use Rattle.par2_md5_lanes.proofs.BlockLaws.{progress_more}
+use Rattle.par2_md5_lanes.proofs.Names.{◌≢◌, ◌<◌, ◌∙◌, ap, arith, cases_eq, get_or-set_other, inl, inr, length, length-set, hash_behind, buffer_at, set, bytes_set_other, bytes_set_same, progress_more}
 use Rattle.par2_md5_lanes.proofs.tasks.take_all.Goals as goal
 
 pub loop-k-preserved : goal.loop-k-preserved

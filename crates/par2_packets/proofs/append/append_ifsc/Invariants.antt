@@ -1,5 +1,4 @@
-use Rattle.par2_packets.proofs.Common.{◌≡◌, ◌++◌, take, flat_map}
-use Rattle.par2_spec.specs.Prelude.{pair_bytes}
+use Rattle.par2_packets.proofs.Names.{◌≡◌, ◌++◌, take, flat_map, pair_bytes}
 use Rattle.par2_packets.proofs.append.append_ifsc.Given as goal
 
 abbrev pub invariant-loop-md5 : goal.invariant-loop-md5

@@ -1,5 +1,4 @@
-use Rattle.par2_packets.proofs.Common.{rules, ◌≡◌, ◌++◌, List, ℕ, map, sym, ap, ap₂, ◌∙◌, arith, flat_map, w32, to_le_bytes, length-map, take_all, file_record_of}
-use Rattle.par2_packets.specs.declared.record.FileRecord.{FileRecord}
+use Rattle.par2_packets.proofs.Names.{rules, ◌≡◌, ◌++◌, List, ℕ, map, sym, ap, ap₂, ◌∙◌, arith, flat_map, w32, to_le_bytes, length-map, take_all, file_record_of, FileRecord}
 use Rattle.par2_spec.specs.Volumes as volumes
 use Rattle.par2_packets.proofs.append.append_main.Goals as goal
 

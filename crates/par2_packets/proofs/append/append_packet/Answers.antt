@@ -1,5 +1,4 @@
-use Rattle.par2_packets.proofs.Common.{◌++◌, ◌∙◌, ◌+◌, [], List, ℕ, length, ap, ap₂, w64, to_le_bytes, magic, md5}
-use Rattle.par2_packets.proofs.Pieces.{appended, packet_in_parts}
+use Rattle.par2_packets.proofs.Names.{◌++◌, ◌∙◌, ◌+◌, [], List, ℕ, length, ap, ap₂, w64, to_le_bytes, magic, md5, appended, packet_in_parts}
 use Rattle.par2_packets.proofs.append.append_packet.Goals as goal
 
 pub returns-clause-ok : goal.returns-clause-ok

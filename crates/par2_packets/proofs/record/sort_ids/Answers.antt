@@ -1,6 +1,4 @@
-use Rattle.par2_packets.proofs.Common.{◌≡◌, ◌<◌, ◌-◌, sym, ap, ◌∙◌, arith, rules, w128, from_le_bytes, IsNonDecreasingBy-from_sort_by_key, record_id_number, increasing}
-use Rattle.par2_packets.specs.declared.record.FileRecord.{FileRecord}
-use Rattle.par2_packets.proofs.Finding.{distinct_keys, moved_distinct, same_ids, rises_more, not_distinct}
+use Rattle.par2_packets.proofs.Names.{◌≡◌, ◌<◌, ◌-◌, sym, ap, ◌∙◌, arith, rules, w128, from_le_bytes, IsNonDecreasingBy-from_sort_by_key, record_id_number, increasing, FileRecord, distinct_keys, moved_distinct, same_ids, rises_more, not_distinct}
 use Rattle.par2_packets.proofs.record.sort_ids.Goals as goal
 
 pub returns-then-number_of-clause-distinct : goal.returns-then-number_of-clause-distinct

@@ -1,7 +1,6 @@
-use Rattle.par2_packets.proofs.Common.{◌≡◌, ◌+◌, ◌-◌, ◌≤◌, ℕ, List, [], length, drop, true, false, ap, sym, ◌∙◌, arith, rest_of, packet_view}
-use Rattle.std.proofs.Common.{length-drop}
+use Rattle.par2_packets.proofs.Names.{◌≡◌, ◌+◌, ◌-◌, ◌≤◌, ℕ, List, [], length, true, false, ap, sym, ◌∙◌, arith, rest_of, packet_view, length-drop, begun, body_length, found, not_here, passed_to, magic_within, nothing}
+use Rattle.par2_packets.proofs.Common.{drop}
 use Rattle.par2_spec.specs.Packets as packets
-use Rattle.par2_packets.proofs.Finding.{begun, body_length, found, not_here, passed_to, magic_within, nothing}
 use Rattle.par2_packets.proofs.scan.next_packet.Goals as goal
 
 pub advance-requires-in-Some-packet_at : goal.advance-requires-in-Some-packet_at

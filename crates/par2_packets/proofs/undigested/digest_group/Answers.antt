@@ -1,10 +1,4 @@
-use Rattle.par2_packets.proofs.Common.{◌≡◌, ◌≤◌, ◌∙◌, ◌+◌, ◌*◌, ◌-◌, ◌<◌, ℕ, List, [], length, map, refl, ap, arith, rules, get_or, get_or_default, range_with_len, length-map-range_with_len, get_or-map-range_with_len, md5, bytes_at}
-use Rattle.par2_md5_lanes.specs.Messages.{buffers_of}
-use Rattle.std.specs.Prelude.{drop}
-use Rattle.std.proofs.Math.Nat.{le_trans, mul-le-mul_right}
-use Rattle.std.proofs.lemmas.Iterator.{serves_from_Range, YieldsList-from_map_by, YieldsList-from_range, items_from_drains}
-use Rattle.std.proofs.lemmas.Simd.{map-map}
-use Rattle.par2_packets.proofs.Pieces.{digested_next}
+use Rattle.par2_packets.proofs.Names.{◌≡◌, ◌≤◌, ◌∙◌, ◌+◌, ◌*◌, ◌-◌, ◌<◌, ℕ, List, [], length, map, refl, ap, arith, rules, get_or, get_or_default, range_with_len, length-map-range_with_len, get_or-map-range_with_len, md5, bytes_at, buffers_of, drop, le_trans, mul-le-mul_right, serves_from_Range, YieldsList-from_map_by, YieldsList-from_range, items_from_drains, map-map, digested_next}
 use Rattle.par2_packets.proofs.undigested.digest_group.Goals.{In_ok-digests}
 use Rattle.par2_packets.proofs.undigested.digest_group.Goals as goal
 

@@ -1,5 +1,4 @@
-use Rattle.par2_packets.proofs.Common.{◌≡◌, ◌+◌, ◌*◌, min, arith, subst, AreDigested}
-use Rattle.par2_packets.proofs.Pieces.{all_digested, digested_further}
+use Rattle.par2_packets.proofs.Names.{◌≡◌, ◌+◌, ◌*◌, min, arith, subst, AreDigested, all_digested, digested_further}
 use Rattle.par2_packets.proofs.undigested.digest_recoveries.Goals as goal
 
 pub loop-group-preserved : goal.loop-group-preserved

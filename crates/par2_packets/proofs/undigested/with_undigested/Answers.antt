@@ -1,5 +1,4 @@
-use Rattle.par2_packets.proofs.Common.{◌≡◌, ◌∙◌, ◌+◌, ◌++◌, List, ℕ, [], ap, arith, common_steps, replicate, magic, undigested}
-use Rattle.par2_packets.proofs.Pieces.{piece_more, undigested_in_parts}
+use Rattle.par2_packets.proofs.Names.{◌≡◌, ◌∙◌, ◌+◌, ◌++◌, List, ℕ, [], ap, arith, common_steps, replicate, magic, undigested, piece_more, undigested_in_parts}
 use Rattle.par2_packets.proofs.undigested.with_undigested.Goals as goal
 
 pub loop-k-preserved : goal.loop-k-preserved

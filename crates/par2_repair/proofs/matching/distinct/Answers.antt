@@ -1,5 +1,4 @@
-use Rattle.par2_repair.proofs.Common.{◌≡◌, ◌∙◌, ◌+◌, ◌++◌, ◌∷◌, [], List, ℕ, Bor, true, false, not, cond, map, sym, ap, subst, take, rules, map_more, not-true, not-false, is_among, distinct, HoldsNames, holds_more}
-use Rattle.par2_repair.proofs.RepairParts.{distinct_more}
+use Rattle.par2_repair.proofs.Names.{◌≡◌, ◌∙◌, ◌+◌, ◌++◌, ◌∷◌, [], List, ℕ, Bor, true, false, not, cond, map, sym, ap, subst, take, rules, map_more, not-true, not-false, is_among, distinct, HoldsNames, holds_more, distinct_more}
 use Rattle.par2_repair.proofs.matching.distinct.Goals as goal
 
 abbrev now : Bor (List ℕ) → List ℕ

@@ -1,7 +1,5 @@
-use Rattle.par2_repair.proofs.Common.{◌≡◌, ◌∙◌, Bor, List, [], ◌∷◌, ℕ, refl, map, ap, ap₂, sym, subst, rules, zip, slice_get, bytes_of, IfOk, IfOk-weaker, Option, Pair, Target, Describe, buffers_of, incomplete, intact_names, matched_numbers, option_and_then, YieldsList-at, YieldsList-from_map, YieldsList-from_map_by, YieldsList-from_slice, YieldsList-from_zip, items_from_collect, map_from_collect}
+use Rattle.par2_repair.proofs.Names.{◌≡◌, ◌∙◌, Bor, List, [], ◌∷◌, ℕ, refl, map, ap, ap₂, sym, subst, rules, zip, slice_get, bytes_of, IfOk, IfOk-weaker, Option, Pair, Target, Describe, buffers_of, incomplete, intact_names, matched_numbers, option_and_then, YieldsList-at, YieldsList-from_map, YieldsList-from_map_by, YieldsList-from_slice, YieldsList-from_zip, items_from_collect, map_from_collect, matches_by_numbers, free_by, heads}
 use Rattle.par2_slices.specs.declared.matching.Target as search
-use Rattle.par2_repair.proofs.RepairParts.{matches_by_numbers, free_by}
-use Rattle.par2_repair.proofs.ReportValues.{heads}
 use Rattle.par2_repair.proofs.matching.matches.Goals as goal
 
 describe : (xs : List search.Target) (ts : List (Bor Target)) → ◌≡◌ {A = List (ℕ × List Pair)} (map (λ x. (x.length, x.pairs.now)) xs) (map (λ t. (t.now.length, t.now.pairs)) ts) → Describe xs (map (λ t. t.now) ts)

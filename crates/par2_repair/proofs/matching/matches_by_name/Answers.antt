@@ -1,11 +1,5 @@
-use Rattle.par2_repair.proofs.Common.{◌≡◌, ◌∙◌, List, [], ◌∷◌, ℕ, map, refl, sym, ap, subst, arith, rules, tests, Option, option_map, IfOk-weaker, map-map, bytes_eq, slice_cmp, nat_cmp, IsDistinct, itself, same_either_way, Target, YieldsList-from_map, YieldsList-from_slice, fact_from_collect}
-use Rattle.std.proofs.lemmas.Map.Made.{update_all_none}
-use Rattle.std.proofs.lemmas.Map.Text.{is_eq-slice_cmp}
+use Rattle.par2_repair.proofs.Names.{◌≡◌, ◌∙◌, List, [], ◌∷◌, ℕ, map, refl, sym, ap, subst, arith, rules, tests, Option, option_map, IfOk-weaker, map-map, bytes_eq, slice_cmp, nat_cmp, IsDistinct, itself, same_either_way, Target, YieldsList-from_map, YieldsList-from_slice, fact_from_collect, update_all_none, is_eq-slice_cmp, IsEquivalence, lookup, find, same_name}
 use Rattle.std.specs.BTreeMap.{IsFromIterResult}
-use Rattle.std.specs.Cmp.{IsEquivalence}
-use Rattle.std.specs.Map.{lookup}
-use Rattle.std.specs.Prelude.{find}
-use Rattle.par2_spec.proofs.ListsLaws.{same_name}
 use Rattle.par2_repair.proofs.matching.matches_by_name.Goals as goal
 
 abbrev by_name : Target × Option (List ℕ) → List ℕ × Option (List ℕ)

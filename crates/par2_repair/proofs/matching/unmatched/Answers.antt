@@ -1,5 +1,4 @@
-use Rattle.par2_repair.proofs.Common.{List, ℕ, rules, tests, Option, is_none, IfOk-weaker, Target, names_without_match, YieldsList-at, YieldsList-from_filter, YieldsList-from_map, YieldsList-from_slice, fact_from_collect, IsFromIterResult, slice_cmp, nat_cmp}
-use Rattle.par2_repair.proofs.Restoring.{holds}
+use Rattle.par2_repair.proofs.Names.{List, ℕ, rules, tests, Option, is_none, IfOk-weaker, Target, names_without_match, YieldsList-at, YieldsList-from_filter, YieldsList-from_map, YieldsList-from_slice, fact_from_collect, IsFromIterResult, slice_cmp, nat_cmp, holds}
 use Rattle.par2_repair.proofs.matching.unmatched.Goals as goal
 
 pub returns : goal.returns

@@ -1,7 +1,4 @@
-use Rattle.par2_repair.proofs.Common.{◌≡◌, ◌⊎◌, ◌∙◌, ◌∷◌, [], ℕ, List, Bool, inl, inr, map, refl, sym, ap, Err, Result, Fault, Memory, ParSet, set_of, set_in, err_from_is_err_and, err_again, answered_so, cond, rules, tests, string_bytes, subst, Global, true, false, filter, filter_map, is_some, IfOk, IfSome, Option, String, Some, cons_option, Folder, has, YieldsList-from_slice, items_from_collect, YieldsList-from_filter_map, None}
-use Rattle.par2_repair.proofs.RepairParts.{all_there, unread, all_present, is_early, not_early}
-use Rattle.par2_sets.specs.SetReading.{Returns}
-use Rattle.par2_repair.specs.declared.reading.Reading.{Reading}
+use Rattle.par2_repair.proofs.Names.{◌≡◌, ◌⊎◌, ◌∙◌, ◌∷◌, [], ℕ, List, Bool, inl, inr, map, refl, sym, ap, Err, Result, Fault, Memory, ParSet, set_of, set_in, err_from_is_err_and, err_again, answered_so, cond, rules, tests, string_bytes, subst, Global, true, false, filter, filter_map, is_some, IfOk, IfSome, Option, String, Some, cons_option, Folder, has, YieldsList-from_slice, items_from_collect, YieldsList-from_filter_map, None, all_there, unread, all_present, is_early, not_early, Returns, Reading}
 use Rattle.par2_repair.proofs.reading.read.Goals.{In_ok-base}
 use Rattle.par2_repair.proofs.reading.read.Goals as goal
 

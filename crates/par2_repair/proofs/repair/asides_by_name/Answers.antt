@@ -1,6 +1,5 @@
-use Rattle.par2_repair.proofs.Common.{IfOk-weaker, rules, YieldsList-from_map, YieldsList-from_slice, YieldsList-from_zip, fact_from_collect, YieldsList-at, slice_cmp, nat_cmp}
+use Rattle.par2_repair.proofs.Names.{IfOk-weaker, rules, YieldsList-from_map, YieldsList-from_slice, YieldsList-from_zip, fact_from_collect, YieldsList-at, slice_cmp, nat_cmp, as_pair, holds_asides}
 use Rattle.std.specs.BTreeMap.{IsFromIterResult}
-use Rattle.par2_repair.proofs.Restoring.{as_pair, holds_asides}
 use Rattle.par2_repair.proofs.repair.asides_by_name.Goals as goal
 
 pub returns : goal.returns

@@ -1,6 +1,4 @@
-use Rattle.par2_repair.proofs.Common.{◌≡◌, ◌∙◌, ◌⊎◌, List, [], ℕ, length, map, sym, ap, subst, string_bytes, None, Some, Err, Option, Fault, AllByRecursion, IsDistinct, bytes_eq, std_from_distinct, err_from_is_err_and, err_passed, ok_no_err, refused_by, early_refusal, set_in, candidates, matches, names_without_match, refusal, Repair, rebuilt_targets, names_there, long_aside, undetermined_fault, ParSet, Target}
-use Rattle.par2_repair.proofs.RepairParts.{determined, distinct_once, whole_if_matched, repair_as_verify, repair_refused, repair_unread, not_repairable, too_long, by_digests, put_aside_in}
-use Rattle.par2_repair.proofs.Drafts.{is_draft}
+use Rattle.par2_repair.proofs.Names.{◌≡◌, ◌∙◌, ◌⊎◌, List, [], ℕ, length, map, sym, ap, subst, string_bytes, None, Some, Err, Option, Fault, AllByRecursion, IsDistinct, bytes_eq, std_from_distinct, err_from_is_err_and, err_passed, ok_no_err, refused_by, early_refusal, set_in, candidates, matches, names_without_match, refusal, Repair, rebuilt_targets, names_there, long_aside, undetermined_fault, ParSet, Target, determined, distinct_once, whole_if_matched, repair_as_verify, repair_refused, repair_unread, not_repairable, too_long, by_digests, put_aside_in, is_draft}
 use Rattle.par2_repair.proofs.repair.draft_repair.Goals.{In_ok-reading, In_ok-restored}
 use Rattle.par2_repair.proofs.repair.draft_repair.Goals as goal
 

@@ -1,5 +1,4 @@
-use Rattle.par2_repair.proofs.Common.{ℕ, List, rules, tests, Option, filter_map, IfOk-weaker, Target, YieldsList-from_slice, fact_from_collect, YieldsList-from_filter_map, IsFromIterResult, slice_cmp, nat_cmp}
-use Rattle.par2_repair.proofs.Restoring.{holds}
+use Rattle.par2_repair.proofs.Names.{ℕ, List, rules, tests, Option, filter_map, IfOk-weaker, Target, YieldsList-from_slice, fact_from_collect, YieldsList-from_filter_map, IsFromIterResult, slice_cmp, nat_cmp, holds}
 use Rattle.par2_repair.proofs.repair.matching.Goals as goal
 
 pub returns : goal.returns

@@ -1,5 +1,4 @@
-use Rattle.par2_repair.proofs.Common.{◌≡◌, ◌⊎◌, ◌∙◌, List, [], sym, ap, subst, Err, IsTrue, IfOk, IfErr, err_from_is_err_and, IfOk-weaker, Change, effects, are_applicable, Purge, changes_of, set_in, refusal, after, Fault, Memory, ok_no_err, refused_by, err_passed, Some, None, Option}
-use Rattle.par2_repair.proofs.RepairParts.{purge_as_verify, purge_unread, purge_refused, purge_by_set, purge_leads}
+use Rattle.par2_repair.proofs.Names.{◌≡◌, ◌⊎◌, ◌∙◌, List, [], sym, ap, subst, Err, IsTrue, IfOk, IfErr, err_from_is_err_and, IfOk-weaker, Change, effects, are_applicable, Purge, changes_of, set_in, refusal, after, Fault, Memory, ok_no_err, refused_by, err_passed, Some, None, Option, purge_as_verify, purge_unread, purge_refused, purge_by_set, purge_leads}
 use Rattle.par2_repair.proofs.repair.plan_purge.Goals as goal
 
 pub returns-in_err-reading-clause-early : goal.returns-in_err-reading-clause-early

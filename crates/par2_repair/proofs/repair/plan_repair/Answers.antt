@@ -1,6 +1,4 @@
-use Rattle.par2_repair.proofs.Common.{◌≡◌, ◌⊎◌, inl, inr, List, map, string_bytes, Result, Ok, Err, Option, IfErr, Change, effects, Repair, refusal, after, err_again, err_from_is_err_and, Fault, Memory, RepairFailed, HasItsMd5s, passed, None, Some}
-use Rattle.par2_spec.specs.Prelude.{RestoresFiles, RestoresInputs, folder_left}
-use Rattle.par2_laws.proofs.RepairAnswers.{answers}
+use Rattle.par2_repair.proofs.Names.{◌≡◌, ◌⊎◌, inl, inr, List, map, string_bytes, Result, Ok, Err, Option, IfErr, Change, effects, Repair, refusal, after, err_again, err_from_is_err_and, Fault, Memory, RepairFailed, HasItsMd5s, passed, None, Some, RestoresFiles, RestoresInputs, folder_left, answers}
 use Rattle.par2_repair.proofs.repair.plan_repair.Goals as goal
 
 failed : {A : Type 0} (P : Type 0) (r : Result A Fault) (cause : Option Fault) → IfErr r (λ y. (y ≡ Memory) ⊎ ((¬ P) × (y ≡ RepairFailed))) → (¬ P → cause ≡ Some RepairFailed) → IfErr r (λ y. (y ≡ Memory) ⊎ (cause ≡ Some y))

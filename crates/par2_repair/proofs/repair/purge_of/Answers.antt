@@ -1,6 +1,4 @@
-use Rattle.par2_repair.proofs.Common.{◌≡◌, ◌∙◌, length, not, sym, ap, inr, rules, tests, ◌==◌, filter, list_any, fault_where, is_incomplete, NotComplete, YieldsList-from_slice}
-use Rattle.std.proofs.lemmas.Iterator.Search.{any_from_yields_List}
-use Rattle.par2_repair.proofs.RepairParts.{any_incomplete}
+use Rattle.par2_repair.proofs.Names.{◌≡◌, ◌∙◌, length, not, sym, ap, inr, rules, tests, ◌==◌, filter, list_any, fault_where, is_incomplete, NotComplete, YieldsList-from_slice, any_from_yields_List, any_incomplete}
 use Rattle.par2_repair.proofs.repair.purge_of.Goals.{After-any}
 use Rattle.par2_repair.proofs.repair.purge_of.Goals as goal
 

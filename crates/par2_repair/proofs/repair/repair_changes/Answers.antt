@@ -1,5 +1,4 @@
-use Rattle.par2_repair.proofs.Common.{◌≡◌, ◌∙◌, ℕ, List, Option, map, sym, ap, subst, Some, None, err_from_is_err_and, refused_by, long_aside, names_there, arith, append_assoc, matches, aside, put_aside, place_in, now_at, Target}
-use Rattle.par2_repair.proofs.RepairParts.{asides_are, changes_are, removals_are, put_aside_in}
+use Rattle.par2_repair.proofs.Names.{◌≡◌, ◌∙◌, ℕ, List, Option, map, sym, ap, subst, Some, None, err_from_is_err_and, refused_by, long_aside, names_there, arith, append_assoc, matches, aside, put_aside, place_in, now_at, Target, asides_are, changes_are, removals_are, put_aside_in}
 use Rattle.par2_repair.proofs.repair.repair_changes.Goals.{In_ok-asides}
 use Rattle.par2_repair.proofs.repair.repair_changes.Goals as goal
 

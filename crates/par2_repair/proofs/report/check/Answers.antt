@@ -1,5 +1,4 @@
-use Rattle.par2_repair.proofs.Common.{◌≡◌, ◌∙◌, Ok, map, string_bytes, sym, ap, subst, set_in, report_in, verdict_by_words, refused_as_reported}
-use Rattle.par2_repair.specs.ReportViews.{report_view}
+use Rattle.par2_repair.proofs.Names.{◌≡◌, ◌∙◌, Ok, map, string_bytes, sym, ap, subst, set_in, report_in, verdict_by_words, refused_as_reported, report_view}
 use Rattle.par2_repair.proofs.report.check.Goals as goal
 
 pub returns-clause-report : goal.returns-clause-report

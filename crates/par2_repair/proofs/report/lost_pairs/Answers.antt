@@ -1,6 +1,4 @@
-use Rattle.par2_repair.proofs.Common.{◌≡◌, ◌∙◌, List, map, ap, ap₂, rules, tests, filter, is_none, list_any, IfOk-weaker, Pair, padded_windows, buffers_of, YieldsList-at, YieldsList-from_slice, YieldsList-from_zip, YieldsList-from_filter_map, fact_from_collect, bytes_of, found, Target, contains, slice_cmp, nat_cmp, eq_by_cmp, count_cmp, pairs_sought}
-use Rattle.std.specs.BTreeSet.{IsFromIterResult}
-use Rattle.par2_repair.proofs.ReportValues.{lost_one, lost_among}
+use Rattle.par2_repair.proofs.Names.{◌≡◌, ◌∙◌, List, map, ap, ap₂, rules, tests, filter, is_none, list_any, IfOk-weaker, Pair, padded_windows, buffers_of, YieldsList-at, YieldsList-from_slice, YieldsList-from_zip, YieldsList-from_filter_map, fact_from_collect, bytes_of, found, Target, contains, slice_cmp, nat_cmp, eq_by_cmp, count_cmp, pairs_sought, IsFromIterResult, lost_one, lost_among}
 use Rattle.par2_repair.proofs.report.lost_pairs.Goals as goal
 
 pub returns : goal.returns

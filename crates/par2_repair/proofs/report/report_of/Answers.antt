@@ -1,5 +1,4 @@
-use Rattle.par2_repair.proofs.Common.{◌≡◌, ◌∙◌, List, ℕ, Ok, sym, ap, ap₂, subst, map, flat_map, filter, is_none, list_any, eq_by_cmp, IsDistinct, bytes_eq, IfOk, map_from_collect, YieldsList-from_map_by, YieldsList-from_slice, rules, rank, survivors, all_pairs, pairs_sought, numbers_of_lost, said_of, target_report_of, Pair, candidates, matches, contains, slice_cmp, nat_cmp, filter_agree, found, bytes_of, is_among, names_without_match, Option, Target, HoldsMatches, count_cmp}
-use Rattle.par2_repair.proofs.ReportValues.{answered, is_sought, once}
+use Rattle.par2_repair.proofs.Names.{◌≡◌, ◌∙◌, List, ℕ, Ok, sym, ap, ap₂, subst, map, flat_map, filter, is_none, list_any, eq_by_cmp, IsDistinct, bytes_eq, IfOk, map_from_collect, YieldsList-from_map_by, YieldsList-from_slice, rules, rank, survivors, all_pairs, pairs_sought, numbers_of_lost, said_of, target_report_of, Pair, candidates, matches, contains, slice_cmp, nat_cmp, filter_agree, found, bytes_of, is_among, names_without_match, Option, Target, HoldsMatches, count_cmp, answered, is_sought, once}
 use Rattle.par2_repair.proofs.report.report_of.Goals as goal
 
 pub returns : goal.returns

@@ -1,5 +1,4 @@
-use Rattle.par2_repair.proofs.Common.{◌≡◌, ◌∙◌, ◌<◌, ◌+◌, ◌++◌, ◌∷◌, [], List, ℕ, Bor, true, false, cond, length, map, take, drop, get_or, sym, ap, arith, rules, concat, flat_map, filter, drop_more, append-nil, length-append, take-map, drop-map, padded, buffers_of, contains, slice_cmp, nat_cmp, Pair, Target}
-use Rattle.par2_repair.proofs.Restoring.{walked, target_more}
+use Rattle.par2_repair.proofs.Names.{◌≡◌, ◌∙◌, ◌<◌, ◌+◌, ◌++◌, ◌∷◌, [], List, ℕ, Bor, true, false, cond, length, map, take, drop, get_or, sym, ap, arith, rules, concat, flat_map, filter, drop_more, append-nil, length-append, take-map, drop-map, padded, buffers_of, contains, slice_cmp, nat_cmp, Pair, Target, walked, target_more}
 use Rattle.par2_repair.proofs.restored.cut_out.Goals as goal
 
 abbrev pairs_of : List Target → List Pair

@@ -1,5 +1,4 @@
-use Rattle.par2_repair.proofs.Common.{◌≡◌, ◌+◌, ◌++◌, ℕ, List, length, map, filter, drop, flat_map, contains, slice_cmp, nat_cmp, padded, buffers_of, Target}
-use Rattle.par2_repair.proofs.Restoring.{walked}
+use Rattle.par2_repair.proofs.Names.{◌≡◌, ◌+◌, ◌++◌, ℕ, List, length, map, filter, drop, flat_map, contains, slice_cmp, nat_cmp, padded, buffers_of, Target, walked}
 use Rattle.par2_repair.proofs.restored.cut_out.Given as goal
 
 abbrev pub invariant-loop-target : goal.invariant-loop-target

@@ -1,5 +1,4 @@
-use Rattle.par2_repair.proofs.Common.{◌≡◌, ◌∙◌, ◌++◌, ◌+◌, ◌<◌, ◌∷◌, [], List, ℕ, Bor, get_or, length, map, take, sym, ap, concat, map_more, map-append, padded, buffers_of}
-use Rattle.par2_repair.proofs.Restoring.{take-again, concat_push}
+use Rattle.par2_repair.proofs.Names.{◌≡◌, ◌∙◌, ◌++◌, ◌+◌, ◌<◌, ◌∷◌, [], List, ℕ, Bor, get_or, length, map, take, sym, ap, concat, map_more, map-append, padded, buffers_of, take-again, concat_push}
 use Rattle.par2_repair.proofs.restored.joined.Goals as goal
 
 one_more : (s size : ℕ) (slices : List (Bor (List ℕ))) (i : ℕ) (d : Bor (List ℕ)) (old new : List ℕ) → i < length slices

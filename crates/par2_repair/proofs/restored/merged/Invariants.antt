@@ -1,6 +1,4 @@
-use Rattle.par2_repair.proofs.Common.{◌≡◌, ◌++◌, drop, lists_of, buffers_of, with_lost_slices}
-use Rattle.std.specs.Slice.Iter.{iter_rest}
-use Rattle.par2_repair.proofs.Restoring.{found_ones}
+use Rattle.par2_repair.proofs.Names.{◌≡◌, ◌++◌, drop, lists_of, buffers_of, with_lost_slices, iter_rest, found_ones}
 use Rattle.par2_repair.proofs.restored.merged.Given as goal
 
 abbrev pub invariant-loop-window : goal.invariant-loop-window

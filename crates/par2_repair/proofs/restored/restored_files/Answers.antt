@@ -1,6 +1,4 @@
-use Rattle.par2_repair.proofs.Common.{◌≡◌, ◌∙◌, List, [], ℕ, Bor, length, length-map, map, refl, sym, ap, ap₂, inl, inr, rules, subst, list_any, is_at, is_among, Option, nil_from_length, all-filter, buffers_of, lists_of, names_without_match, rebuilt, known, padded, slice_cmp, nat_cmp, contains, AllByRecursion, Target, with_lost_slices}
-use Rattle.par2_repair.proofs.RepairParts.{none_rebuilt, targets_are}
-use Rattle.par2_repair.proofs.Restoring.{found_ones, all_slices, all_lengths, all_counted, no_names, no_fault}
+use Rattle.par2_repair.proofs.Names.{◌≡◌, ◌∙◌, List, [], ℕ, Bor, length, length-map, map, refl, sym, ap, ap₂, inl, inr, rules, subst, list_any, is_at, is_among, Option, nil_from_length, all-filter, buffers_of, lists_of, names_without_match, rebuilt, known, padded, slice_cmp, nat_cmp, contains, AllByRecursion, Target, with_lost_slices, none_rebuilt, targets_are, found_ones, all_slices, all_lengths, all_counted, no_names, no_fault}
 use Rattle.par2_repair.proofs.restored.restored_files.Goals.{Then-is_empty, In_ok-cut_out}
 use Rattle.par2_repair.proofs.restored.restored_files.Goals as goal
 

@@ -1,8 +1,4 @@
-use Rattle.par2_sets.proofs.Common.{◌≡◌, ◌∙◌, ◌==◌, ◌&&◌, Bool, length, map, sym, ap, ap₂, subst, rules, List, ℕ, on_total, nat_list_cmp_total, texts_ties, distinct, distinct_count, bytes_eq, is_name, DescBody, YieldsList-from_slice, YieldsList-from_map_by, items_from_drains, length-map}
-use Rattle.std.proofs.Common.{tests}
-use Rattle.std.proofs.lemmas.Iterator.Search.{all_from_yields_List}
-use Rattle.std.proofs.lemmas.Map.Views.{btree_set_len-from_list}
-use Rattle.par2_sets.proofs.Names.{distinct_count-map, counted}
+use Rattle.par2_sets.proofs.AnswerNames.{◌≡◌, ◌∙◌, ◌==◌, ◌&&◌, Bool, length, map, sym, ap, ap₂, subst, rules, List, ℕ, on_total, nat_list_cmp_total, texts_ties, distinct, distinct_count, bytes_eq, is_name, DescBody, YieldsList-from_slice, YieldsList-from_map_by, items_from_drains, length-map, tests, all_from_yields_List, btree_set_len-from_list, distinct_count-map, counted}
 use Rattle.par2_sets.proofs.set.are_in_profile.Goals as goal
 
 pub returns : goal.returns

@@ -1,6 +1,5 @@
-use Rattle.par2_sets.proofs.Common.{◌≡◌, ◌<◌, ◌≤◌, ◌∙◌, ◌⊎◌, ◌∷◌, [], Some, inl, inr, length, sym, ap, subst, true, false, arith, Fault, Memory, is_among, numbered, aside, taken_for, target_names, long_aside, no_name, IfErr}
-use Rattle.par2_sets.proofs.Names.{all_names, first_here, first_later, from_one, long_is_no_name, too_long}
-use Rattle.par2_sets.proofs.Reading.{passed_on}
+use Rattle.par2_sets.proofs.AnswerNames.{◌≡◌, ◌<◌, ◌≤◌, ◌∙◌, ◌⊎◌, ◌∷◌, [], Some, inl, inr, length, sym, ap, subst, true, false, arith, Fault, Memory, is_among, numbered, aside, taken_for, target_names, long_aside, no_name, all_names, first_here, first_later, from_one, long_is_no_name, too_long, passed_on}
+use Rattle.par2_sets.proofs.Common.{IfErr}
 use Rattle.par2_sets.proofs.set.aside.Goals as goal
 
 pub loop-n-preserved : goal.loop-n-preserved

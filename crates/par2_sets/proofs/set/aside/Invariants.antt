@@ -1,5 +1,4 @@
-use Rattle.par2_sets.proofs.Common.{◌≡◌, aside, taken_for}
-use Rattle.par2_sets.proofs.Names.{first_from}
+use Rattle.par2_sets.proofs.AnswerNames.{◌≡◌, aside, taken_for, first_from}
 use Rattle.par2_sets.proofs.set.aside.Given as goal
 
 abbrev pub invariant-loop-n : goal.invariant-loop-n

@@ -1,5 +1,4 @@
-use Rattle.par2_sets.proofs.Common.{◌≡◌, ◌<◌, ◌∙◌, ◌++◌, ◌∷◌, [], IsTrue, length, rules, map, sym, ap, arith, is_name, aside, long_aside, take_all}
-use Rattle.par2_sets.proofs.Names.{one_more_aside, one_more_short}
+use Rattle.par2_sets.proofs.AnswerNames.{◌≡◌, ◌<◌, ◌∙◌, ◌++◌, ◌∷◌, [], IsTrue, length, rules, map, sym, ap, arith, is_name, aside, long_aside, take_all, one_more_aside, one_more_short}
 use Rattle.par2_sets.proofs.set.asides.Goals as goal
 
 pub loop-name-preserved : goal.loop-name-preserved

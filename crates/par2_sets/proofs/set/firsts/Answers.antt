@@ -1,5 +1,4 @@
-use Rattle.par2_sets.proofs.Common.{◌∙◌, sym}
-use Rattle.par2_sets.proofs.Reading.{first_added, first_stays}
+use Rattle.par2_sets.proofs.AnswerNames.{◌∙◌, sym, first_added, first_stays}
 use Rattle.par2_sets.proofs.set.firsts.Goals as goal
 
 pub loop-key-preserved-in_ok-insert-2 : goal.loop-key-preserved-in_ok-insert-2

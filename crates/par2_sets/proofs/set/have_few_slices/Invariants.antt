@@ -1,5 +1,4 @@
-use Rattle.par2_sets.proofs.Common.{◌≡◌, ◌+◌, take, sum_by}
-use Rattle.par2_spec.specs.Prelude.{slice_count}
+use Rattle.par2_sets.proofs.AnswerNames.{◌≡◌, ◌+◌, take, sum_by, slice_count}
 use Rattle.par2_sets.proofs.set.have_few_slices.Given as goal
 
 abbrev pub invariant-loop-description : goal.invariant-loop-description

@@ -1,5 +1,4 @@
-use Rattle.par2_sets.proofs.Common.{arith, names, among-append}
-use Rattle.par2_spec.proofs.MovesLaws.{has_by_names}
+use Rattle.par2_sets.proofs.AnswerNames.{arith, names, among-append, has_by_names}
 use Rattle.par2_sets.proofs.set.is_taken.Goals as goal
 
 pub returns-then-is_some : goal.returns-then-is_some

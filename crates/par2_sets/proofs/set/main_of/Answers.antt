@@ -1,6 +1,4 @@
-use Rattle.par2_sets.proofs.Common.{◌≡◌, ◌<◌, ℕ, List, Option, Some, true, length, get_or, map, drop, arith, bytes_eq, MainBody, read_main, main_of, packet_view}
-use Rattle.std.proofs.lemmas.Grind.{common_steps}
-use Rattle.md5.specs.Md5.{md5}
+use Rattle.par2_sets.proofs.AnswerNames.{◌≡◌, ◌<◌, ℕ, List, Option, Some, true, length, get_or, map, drop, arith, bytes_eq, MainBody, read_main, main_of, packet_view, common_steps, md5}
 use Rattle.par2_packets.specs.declared.scan.Packet as scan
 use Rattle.par2_sets.proofs.set.main_of.Goals as goal
 

@@ -1,6 +1,4 @@
-use Rattle.par2_sets.proofs.Common.{◌≡◌, ◌<◌, length, rules, numbered}
-use Rattle.std.proofs.Common.{IfErr}
-use Rattle.par2_sets.proofs.Names.{long_where_err}
+use Rattle.par2_sets.proofs.AnswerNames.{◌≡◌, ◌<◌, length, rules, numbered, IfErr, long_where_err}
 use Rattle.par2_sets.proofs.set.numbered.Goals as goal
 
 pub returns-clause-refused : goal.returns-clause-refused

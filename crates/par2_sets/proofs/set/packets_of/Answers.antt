@@ -1,11 +1,4 @@
-use Rattle.std.specs.Prelude.{Vec}
-use Rattle.std.specs.declared.alloc.Global.{Global}
-use Rattle.par2_packets.specs.declared.scan.Packet.{Packet}
-use Rattle.par2_files.specs.declared.name.Name.{Name}
-use Rattle.par2_sets.proofs.Common.{◌≡◌, ◌∙◌, true, false, not, ◌+◌, ◌++◌, ◌∷◌, [], sym, ap, ap₂, map, take, filter, bytes_eq, accepted, packets_with, packet_view, are_own, names, take_all, rules, filter_same, is_par_name}
-use Rattle.std.proofs.Common.{append-nil}
-use Rattle.par2_sets.proofs.Reading.{has_own, packets_in, no_more, one_more, kept_more, others_are}
-use Rattle.par2_spec.proofs.ListsLaws.{same_name}
+use Rattle.par2_sets.proofs.AnswerNames.{Vec, Global, Packet, Name, ◌≡◌, ◌∙◌, true, false, not, ◌+◌, ◌++◌, ◌∷◌, [], sym, ap, ap₂, map, take, filter, bytes_eq, accepted, packets_with, packet_view, are_own, names, take_all, rules, filter_same, is_par_name, append-nil, has_own, packets_in, no_more, one_more, kept_more, others_are, same_name}
 use Rattle.par2_sets.proofs.set.packets_of.Goals.{then-eq, else-eq+in_ok-is_own, then-is_own+in_ok-push, else-is_own}
 use Rattle.par2_sets.proofs.set.packets_of.Goals as goal
 

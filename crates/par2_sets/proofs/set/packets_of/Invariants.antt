@@ -1,5 +1,4 @@
-use Rattle.par2_sets.proofs.Common.{◌≡◌, filter, map, not, take, bytes_eq, packet_view}
-use Rattle.par2_sets.proofs.Reading.{has_own, packets_in}
+use Rattle.par2_sets.proofs.AnswerNames.{◌≡◌, filter, map, not, take, bytes_eq, packet_view, has_own, packets_in}
 use Rattle.par2_sets.proofs.set.packets_of.Given as goal
 
 abbrev pub invariant-loop-name : goal.invariant-loop-name

@@ -1,9 +1,4 @@
-use Rattle.par2_sets.proofs.Common.{◌≡◌, ◌∙◌, ◌==◌, ◌++◌, ◌∷◌, [], inr, sym, ap, ap₂, rules, arith, take_more, take_all, Some, Ok, option_map, ok_or, if◌then◌else◌, NoChecksums, count_cmp}
-use Rattle.std.proofs.lemmas.Bool.{ne_eqb}
-use Rattle.std.specs.BTreeMap.{get}
-use Rattle.std.specs.Option.{option_copied}
-use Rattle.par2_spec.specs.Prelude.{slice_count}
-use Rattle.par2_sets.proofs.Reading.{item_at}
+use Rattle.par2_sets.proofs.AnswerNames.{◌≡◌, ◌∙◌, ◌==◌, ◌++◌, ◌∷◌, [], inr, sym, ap, ap₂, rules, arith, take_more, take_all, Some, Ok, option_map, ok_or, if◌then◌else◌, NoChecksums, count_cmp, ne_eqb, get, option_copied, slice_count, item_at}
 use Rattle.par2_sets.proofs.set.pairs_for.Goals.{After-get}
 use Rattle.par2_sets.proofs.set.pairs_for.Goals as goal
 

@@ -1,7 +1,4 @@
-use Rattle.par2_sets.proofs.Common.{◌∙◌, ℕ, List, ap, rules, not, filter, map-id, IfOk-weaker, is_among, target_names, YieldsList-at, YieldsList-from_map, YieldsList-from_slice}
-use Rattle.std.proofs.lemmas.Iterator.{items_from_collect}
-use Rattle.std.proofs.lemmas.Iterator.Consumers.{YieldsList-from_filter}
-use Rattle.par2_sets.proofs.Reading.{par_files_are}
+use Rattle.par2_sets.proofs.AnswerNames.{◌∙◌, ℕ, List, ap, rules, not, filter, map-id, IfOk-weaker, is_among, target_names, YieldsList-at, YieldsList-from_map, YieldsList-from_slice, items_from_collect, YieldsList-from_filter, par_files_are}
 use Rattle.par2_sets.proofs.set.par_files.Goals as goal
 
 pub returns : goal.returns

@@ -1,9 +1,5 @@
-use Rattle.par2_sets.proofs.Common.{lookup, ◌≡◌, ◌∙◌, ℕ, List, map, sym, ap, subst, rules, option_map, nat_cmp, eq_by_cmp, IsStrictlyIncreasing, IfOk-weaker, lookup-map_values, packet_view, set_exponents, set_recovery, YieldsList-from_map_by, YieldsList-from_slice, YieldsList-at, YieldsList-from_filter_map, filter_map-map}
+use Rattle.par2_sets.proofs.AnswerNames.{lookup, ◌≡◌, ◌∙◌, ℕ, List, map, sym, ap, subst, rules, option_map, nat_cmp, eq_by_cmp, IsStrictlyIncreasing, IfOk-weaker, lookup-map_values, packet_view, set_exponents, set_recovery, YieldsList-from_map_by, YieldsList-from_slice, YieldsList-at, YieldsList-from_filter_map, filter_map-map, entry_of, usable, slices_in, pair_of, first_slices, rising, items_of, IsOrdered, items_from_collect, YieldsList-from_rest}
 use Rattle.par2_packets.specs.declared.scan.Packet as scan
-use Rattle.par2_sets.proofs.Reading.{entry_of, usable, slices_in, pair_of, first_slices, rising, items_of}
-use Rattle.std.specs.BTreeMap.{IsOrdered}
-use Rattle.std.proofs.lemmas.Iterator.{items_from_collect}
-use Rattle.std.proofs.lemmas.Iterator.Consumers.{YieldsList-from_rest}
 use Rattle.par2_sets.proofs.set.recovery_of.Goals as goal
 
 pub returns : goal.returns

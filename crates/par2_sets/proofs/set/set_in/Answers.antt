@@ -1,5 +1,4 @@
-use Rattle.par2_sets.proofs.Common.{ℕ, ◌≡◌, ◌≤◌, ◌∙◌, true, sym, subst, map, arith, rules, Ok, Some, IfOk, IsSound, is_slice_size, main_of, packet_view, set_view, set_from_packets, size_parts}
-use Rattle.par2_sets.proofs.Reading.{all_read}
+use Rattle.par2_sets.proofs.AnswerNames.{ℕ, ◌≡◌, ◌≤◌, ◌∙◌, true, sym, subst, map, arith, rules, Ok, Some, IfOk, IsSound, is_slice_size, main_of, packet_view, set_view, set_from_packets, size_parts, all_read}
 use Rattle.par2_sets.proofs.set.set_in.Goals.{In_ok-recovery}
 use Rattle.par2_sets.proofs.set.set_in.Goals as goal
 

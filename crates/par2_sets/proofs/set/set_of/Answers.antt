@@ -1,9 +1,6 @@
-use Rattle.par2_sets.proofs.Common.{◌≡◌, ◌∙◌, ℕ, List, err_from_is_err_and, own_files, Packet, ok_or, main_of, is_slice_size, all_some, description_of, are_in_profile, target_of, NoDescription, NoChecksums, ◌>>=◌, map, Some, Ok, Err, Result, IfOk, refl, sym, ap, subst, arith, Fault, ParSet, IsSound, packet_view, set_from_packets}
-use Rattle.par2_spec.proofs.ListsLaws.{refused_by}
-use Rattle.par2_spec.specs.Prelude.{unless}
-use Rattle.par2_spec.specs.declared.Fault.TheVariants.{NoMain, BadSet}
+use Rattle.par2_sets.proofs.AnswerNames.{◌≡◌, ◌∙◌, ℕ, List, err_from_is_err_and, own_files, ok_or, main_of, is_slice_size, all_some, description_of, are_in_profile, target_of, NoDescription, NoChecksums, ◌>>=◌, map, Some, Ok, Err, Result, IfOk, refl, sym, ap, subst, arith, Fault, ParSet, IsSound, packet_view, set_from_packets, refused_by, unless, NoMain, BadSet, at_packets, first_id}
+use Rattle.par2_sets.proofs.Common.{Packet}
 use Rattle.par2_spec.specs.Sets as sets
-use Rattle.par2_sets.proofs.Reading.{at_packets, first_id}
 use Rattle.par2_sets.proofs.set.set_of.Goals.{After-deref}
 use Rattle.par2_sets.proofs.set.set_of.Goals as goal
 

@@ -1,6 +1,4 @@
-use Rattle.par2_sets.proofs.Common.{◌∙◌, List, ap, map, rules, IfOk-weaker, list_any, is_among, nat_cmp, Target, target_names, HoldsOwned, slice_cmp, YieldsList-from_map, YieldsList-from_slice, is_eq-slice_cmp}
-use Rattle.std.proofs.lemmas.Iterator.Adapters.{fact_from_collect}
-use Rattle.std.specs.BTreeSet.{IsFromIterResult}
+use Rattle.par2_sets.proofs.AnswerNames.{◌∙◌, List, ap, map, rules, IfOk-weaker, list_any, is_among, nat_cmp, Target, target_names, HoldsOwned, slice_cmp, YieldsList-from_map, YieldsList-from_slice, is_eq-slice_cmp, fact_from_collect, IsFromIterResult}
 use Rattle.par2_sets.proofs.set.target_names.Goals as goal
 
 pub returns : goal.returns

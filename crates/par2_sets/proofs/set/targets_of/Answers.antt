@@ -1,11 +1,7 @@
-use Rattle.par2_sets.proofs.Common.{◌≡◌, ◌∙◌, ◌⊎◌, ◌==◌, ◌&&◌, ◌++◌, ◌∷◌, [], if◌then◌else◌, Ok, Fault, DescBody, Target, List, ℕ, map, length, find, filter_map, option_map, eq_by_cmp, bytes_eq, inl, inr, sym, ap, rules, Some, Err, arith, Memory, NoChecksums, IfscBody, read_ifsc, pairs_of, target_of, all_some, packet_view, was_some, ok_or, take_all, Returns, count_cmp, YieldsList-from_slice, YieldsList-from_filter_map, filter_map-map}
-use Rattle.std.specs.BTreeMap.{get}
-use Rattle.std.specs.Prelude.{Option, Vec}
-use Rattle.std.specs.declared.alloc.Global.{Global}
+use Rattle.par2_sets.proofs.AnswerNames.{◌≡◌, ◌∙◌, ◌⊎◌, ◌==◌, ◌&&◌, ◌++◌, ◌∷◌, [], if◌then◌else◌, Ok, Fault, DescBody, Target, List, ℕ, map, length, find, filter_map, option_map, eq_by_cmp, bytes_eq, inl, inr, sym, ap, rules, Some, Err, arith, Memory, NoChecksums, IfscBody, read_ifsc, pairs_of, target_of, all_some, packet_view, was_some, ok_or, take_all, Returns, count_cmp, YieldsList-from_slice, YieldsList-from_filter_map, filter_map-map, get, Vec, Global, Pair, slice_count, firsts_of, keyed, same_count, all_some_more, passed_on, one_missing}
+use Rattle.std.specs.Prelude.{Option}
 use Rattle.par2_packets.specs.declared.scan.Packet as scan
 use Rattle.par2_sets.specs.declared.set.Target as code
-use Rattle.par2_spec.specs.Prelude.{Pair, slice_count}
-use Rattle.par2_sets.proofs.Reading.{firsts_of, keyed, same_count, all_some_more, passed_on, one_missing}
 use Rattle.par2_sets.proofs.set.targets_of.Goals.{In_ok-checksums}
 use Rattle.par2_sets.proofs.set.targets_of.Goals as goal
 

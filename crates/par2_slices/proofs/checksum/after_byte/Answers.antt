@@ -1,5 +1,4 @@
-use Rattle.par2_slices.proofs.Common.{◌∙◌, ◌/◌, ap, sym, bit_xor}
-use Rattle.par2_slices.proofs.Checksums.{one_byte}
+use Rattle.par2_slices.proofs.Names.{◌∙◌, ◌/◌, ap, sym, bit_xor, one_byte}
 use Rattle.par2_slices.proofs.checksum.after_byte.Goals as goal
 
 pub returns : goal.returns

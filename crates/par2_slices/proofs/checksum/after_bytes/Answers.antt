@@ -1,5 +1,4 @@
-use Rattle.par2_slices.proofs.Common.{◌/◌, ◌∙◌, ap, fold, get_or, length, sym, take_all, crc_byte}
-use Rattle.par2_slices.proofs.Checksums.{fold_more, grouped}
+use Rattle.par2_slices.proofs.Names.{◌/◌, ◌∙◌, ap, fold, get_or, length, sym, take_all, crc_byte, fold_more, grouped}
 use Rattle.par2_slices.proofs.checksum.after_bytes.Goals as goal
 
 pub loop-byte-preserved : goal.loop-byte-preserved

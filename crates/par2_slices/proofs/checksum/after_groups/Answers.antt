@@ -1,5 +1,4 @@
-use Rattle.par2_slices.proofs.Common.{[], ◌∙◌, ap, fold, get_or, sym, crc_byte}
-use Rattle.par2_slices.proofs.Checksums.{fold_group}
+use Rattle.par2_slices.proofs.Names.{[], ◌∙◌, ap, fold, get_or, sym, crc_byte, fold_group}
 use Rattle.par2_slices.proofs.checksum.after_groups.Goals as goal
 
 pub loop-group-preserved : goal.loop-group-preserved

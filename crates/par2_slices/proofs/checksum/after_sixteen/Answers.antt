@@ -1,5 +1,4 @@
-use Rattle.par2_slices.proofs.Common.{rules, ◌∙◌, ap₂, bit_xor}
-use Rattle.par2_slices.proofs.Checksums.{sixteen_bytes}
+use Rattle.par2_slices.proofs.Names.{rules, ◌∙◌, ap₂, bit_xor, sixteen_bytes}
 use Rattle.par2_slices.proofs.checksum.after_sixteen.Goals as goal
 
 pub returns : goal.returns

@@ -1,5 +1,4 @@
-use Rattle.par2_slices.proofs.Common.{◌≡◌, ℕ, suc, ◌+◌, ◌-◌, ◌*◌, ◌/◌, ◌%◌, ◌^◌, ◌∙◌, ap, arith, bit_xor, crc_step, rules, steps}
-use Rattle.par2_slices.proofs.Checksums.{first_product, more_product}
+use Rattle.par2_slices.proofs.Names.{◌≡◌, ℕ, suc, ◌+◌, ◌-◌, ◌*◌, ◌/◌, ◌%◌, ◌^◌, ◌∙◌, ap, arith, bit_xor, crc_step, rules, steps, first_product, more_product}
 use Rattle.par2_slices.proofs.checksum.multiply.Goals as goal
 
 pub loop-bit-init : goal.loop-bit-init

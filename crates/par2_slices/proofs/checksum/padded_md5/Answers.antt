@@ -1,5 +1,4 @@
-use Rattle.par2_slices.proofs.Common.{ℕ, ◌∙◌, ◌++◌, ◌*◌, List, replicate, subst, ap, arith, Holds, md5}
-use Rattle.par2_slices.proofs.Checksums.{more_zeros, last_zeros}
+use Rattle.par2_slices.proofs.Names.{ℕ, ◌∙◌, ◌++◌, ◌*◌, List, replicate, subst, ap, arith, Holds, md5, more_zeros, last_zeros}
 use Rattle.par2_slices.proofs.checksum.padded_md5.Goals as goal
 
 pub loop-preserved : goal.loop-preserved

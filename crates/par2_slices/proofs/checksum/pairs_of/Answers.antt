@@ -1,5 +1,4 @@
-use Rattle.std.proofs.Common.{arith}
-use Rattle.std.proofs.lemmas.Grind.{common_steps}
+use Rattle.par2_slices.proofs.Names.{arith, common_steps}
 use Rattle.par2_slices.proofs.checksum.pairs_of.Goals as goal
 
 pub loop-group-preserved : goal.loop-group-preserved

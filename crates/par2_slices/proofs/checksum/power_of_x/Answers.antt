@@ -1,5 +1,4 @@
-use Rattle.par2_slices.proofs.Common.{◌∙◌}
-use Rattle.par2_slices.proofs.Checksums.{first_power, even_power, odd_power}
+use Rattle.par2_slices.proofs.Names.{◌∙◌, first_power, even_power, odd_power}
 use Rattle.par2_slices.proofs.checksum.power_of_x.Goals as goal
 use Rattle.par2_slices.proofs.checksum.power_of_x.Goals.{then-count-bit-eq1, else-count-bit-eq1}
 

@@ -1,5 +1,4 @@
-use Rattle.par2_slices.proofs.Common.{◌≡◌, ◌+◌, ◌++◌, ◌∷◌, [], ap₂, arith, rules, digest_at}
-use Rattle.par2_slices.proofs.Matches.{one_pair_more}
+use Rattle.par2_slices.proofs.Names.{◌≡◌, ◌+◌, ◌++◌, ◌∷◌, [], ap₂, arith, rules, digest_at, one_pair_more}
 use Rattle.par2_slices.proofs.checksum.push_group.Goals as goal
 
 pub loop-k-preserved : goal.loop-k-preserved

@@ -1,5 +1,4 @@
-use Rattle.par2_slices.proofs.Common.{◌<◌, arith}
-use Rattle.par2_slices.proofs.Matches.{digest_is}
+use Rattle.par2_slices.proofs.Names.{◌<◌, arith, digest_is}
 use Rattle.par2_slices.proofs.checksum.whole_md5s.Goals as goal
 
 pub returns : goal.returns

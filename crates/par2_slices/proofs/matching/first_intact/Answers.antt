@@ -1,9 +1,5 @@
-use Rattle.par2_slices.proofs.Common.{◌≡◌, ◌∙◌, ℕ, arith, length-map, subst, ◌<◌, Bool, List, [], length, get_or, sym, ap, Bor, at_drop_all, get_or-map, is_intact, first_intact, listed_at, buffers_of}
+use Rattle.par2_slices.proofs.Names.{◌≡◌, ◌∙◌, ℕ, arith, length-map, subst, ◌<◌, Bool, List, [], length, get_or, sym, ap, Bor, at_drop_all, get_or-map, is_intact, first_intact, listed_at, buffers_of, first_here, first_later, None, ForSome, IsFirst}
 use Rattle.par2_spec.specs.Sets as sets
-use Rattle.par2_slices.proofs.Matches.{first_here, first_later}
-use Rattle.std.proofs.Common.{None}
-use Rattle.std.specs.Option.{ForSome}
-use Rattle.par2_slices.specs.Matching.{IsFirst}
 use Rattle.par2_slices.proofs.matching.first_intact.Goals as goal
 
 -- what is known of a buffer is known of it by its number

@@ -1,5 +1,4 @@
-use Rattle.par2_slices.proofs.Common.{◌≡◌, ◌∙◌, length, length-take, ap, arith, slice_count}
-use Rattle.par2_slices.proofs.Comparisons.{compared_is, intact_by_md5s, not_intact_by_crcs}
+use Rattle.par2_slices.proofs.Names.{◌≡◌, ◌∙◌, length, length-take, ap, arith, slice_count, compared_is, intact_by_md5s, not_intact_by_crcs}
 use Rattle.par2_slices.proofs.matching.is_intact.Goals as goal
 
 pub invariant_of-compared : goal.invariant_of-compared

@@ -1,5 +1,4 @@
-use Rattle.par2_slices.proofs.Common.{◌≡◌, ◌<◌, ◌∙◌, List, length, sym, ap, subst, rules, Pair, pair_at, IsFirst}
-use Rattle.par2_slices.proofs.Comparisons.{not_intact_by_first}
+use Rattle.par2_slices.proofs.Names.{◌≡◌, ◌<◌, ◌∙◌, List, length, sym, ap, subst, rules, Pair, pair_at, IsFirst, not_intact_by_first}
 use Rattle.par2_slices.proofs.matching.is_intact_by.Goals as goal
 
 pub returns-then-target-crc : goal.returns-then-target-crc

@@ -1,5 +1,4 @@
-use Rattle.par2_slices.proofs.Common.{◌∙◌, ℕ, ◌+◌, ◌++◌, List, length, drop, sym, ap, subst, arith, Bor, range_with_len, append-nil, at_drop_all, length-map, matched_from, buffers_of}
-use Rattle.par2_slices.proofs.Matches.{AreBelow, below_length, described_all, left_below, match_pushed}
+use Rattle.par2_slices.proofs.Names.{◌∙◌, ℕ, ◌+◌, ◌++◌, List, length, drop, sym, ap, subst, arith, Bor, range_with_len, append-nil, at_drop_all, length-map, matched_from, buffers_of, AreBelow, below_length, described_all, left_below, match_pushed}
 use Rattle.par2_slices.proofs.matching.matched.Goals as goal
 
 pub loop-target-init : goal.loop-target-init

@@ -1,5 +1,4 @@
-use Rattle.par2_slices.proofs.Common.{◌≡◌, ◌-◌, refl, arith}
-use Rattle.std.proofs.lemmas.Iterator.{items_from_collect, YieldsList-from_range}
+use Rattle.par2_slices.proofs.Names.{◌≡◌, ◌-◌, refl, arith, items_from_collect, YieldsList-from_range}
 use Rattle.par2_slices.proofs.matching.numbers_below.Goals as goal
 
 pub returns : goal.returns

@@ -1,5 +1,4 @@
-use Rattle.par2_slices.proofs.Common.{◌∙◌, ap, rules, first_intact, buffers_of}
-use Rattle.std.proofs.lemmas.Fn.{filter_same}
+use Rattle.par2_slices.proofs.Names.{◌∙◌, ap, rules, first_intact, buffers_of, filter_same}
 use Rattle.par2_slices.proofs.matching.take_first.Goals as goal
 
 pub returns-in_err-first-clause-first : goal.returns-in_err-first-clause-first

@@ -1,5 +1,4 @@
-use Rattle.par2_slices.proofs.Common.{◌∙◌, ℕ, List, map, take, sym, ap, ap₂, arith, map_more, take_all, Pair, first_position, pair_at}
-use Rattle.par2_slices.proofs.Searching.{all_done, at_start, bytes_of, bytes_done}
+use Rattle.par2_slices.proofs.Names.{◌∙◌, ℕ, List, map, take, sym, ap, ap₂, arith, map_more, take_all, Pair, first_position, pair_at, all_done, at_start, bytes_of, bytes_done}
 use Rattle.par2_slices.proofs.search.find_among.Goals as goal
 
 pub search_bytes-requires : goal.search_bytes-requires

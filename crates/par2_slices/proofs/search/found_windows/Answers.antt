@@ -1,5 +1,4 @@
-use Rattle.par2_slices.proofs.Common.{◌≡◌, ◌∙◌, ◌≤◌, ◌++◌, ◌∷◌, [], ℕ, List, length, map, sym, ap, ap₂, subst, Option, IfSome, option_map, map-append, map_more, All-push, Pair, first_position, found, no_pair, pair_at, AreShort, IsWithin, Window, padded_window, padded_windows, buffers_of, window_in}
-use Rattle.par2_slices.proofs.FoundWindows.{position_of_pair, position_found, position_within}
+use Rattle.par2_slices.proofs.Names.{◌≡◌, ◌∙◌, ◌≤◌, ◌++◌, ◌∷◌, [], ℕ, List, length, map, sym, ap, ap₂, subst, Option, IfSome, option_map, map-append, map_more, All-push, Pair, first_position, found, no_pair, pair_at, AreShort, IsWithin, Window, padded_window, padded_windows, buffers_of, window_in, position_of_pair, position_found, position_within}
 use Rattle.par2_slices.proofs.search.found_windows.Goals as goal
 
 pub window_at-requires : goal.window_at-requires

@@ -1,7 +1,4 @@
-use Rattle.par2_slices.proofs.Common.{◌/◌, ◌^◌, ℕ, rules, arith, IsNonDecreasingBy, PairPlace, no_place}
-use Rattle.std.proofs.Common.{ltb}
-use Rattle.std.proofs.lemmas.Bool.{ltb-false, ltb-true}
-use Rattle.std.proofs.lemmas.List.Sorted.{IsNonDecreasingBy-from_default, IsPartitionPoint-from_clause, IsPartitionedBy-ltb}
+use Rattle.par2_slices.proofs.Names.{◌/◌, ◌^◌, ℕ, rules, arith, IsNonDecreasingBy, PairPlace, no_place, ltb, ltb-false, ltb-true, IsNonDecreasingBy-from_default, IsPartitionPoint-from_clause, IsPartitionedBy-ltb}
 use Rattle.par2_slices.proofs.wanted.group_start.Goals as goal
 
 pub returns : goal.returns

@@ -1,5 +1,4 @@
-use Rattle.par2_slices.proofs.Common.{rules, ◌≡◌, ◌+◌, ◌++◌, ◌∷◌, [], ◌∙◌, map, length, ap, sym, arith, range_with_len, map-range_with_len_more, IsNonDecreasingBy-from_sort_by_key}
-use Rattle.par2_slices.proofs.Places.{place_of, index_of}
+use Rattle.par2_slices.proofs.Names.{rules, ◌≡◌, ◌+◌, ◌++◌, ◌∷◌, [], ◌∙◌, map, length, ap, sym, arith, range_with_len, map-range_with_len_more, IsNonDecreasingBy-from_sort_by_key, place_of, index_of}
 use Rattle.par2_slices.proofs.wanted.places_of.Goals as goal
 
 pub loop-index-preserved : goal.loop-index-preserved

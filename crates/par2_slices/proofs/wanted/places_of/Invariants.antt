@@ -1,5 +1,4 @@
-use Rattle.par2_slices.proofs.Common.{◌≡◌, map, range_with_len}
-use Rattle.par2_slices.proofs.Places.{place_of}
+use Rattle.par2_slices.proofs.Names.{◌≡◌, map, range_with_len, place_of}
 use Rattle.par2_slices.proofs.wanted.places_of.Given as goal
 
 abbrev pub invariant-loop-index : goal.invariant-loop-index

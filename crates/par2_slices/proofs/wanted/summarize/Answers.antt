@@ -1,6 +1,4 @@
-use Rattle.par2_slices.proofs.Common.{arith, ap, ◌/◌, ◌%◌, ◌∙◌, bit_at, get_or, get_or-set_same, w32}
-use Rattle.std.proofs.lemmas.Nat.Bits.{bit_at_set_same}
-use Rattle.par2_slices.proofs.Searching.{kept_by_clear, kept_by_set}
+use Rattle.par2_slices.proofs.Names.{arith, ap, ◌/◌, ◌%◌, ◌∙◌, bit_at, get_or, get_or-set_same, w32, bit_at_set_same, kept_by_clear, kept_by_set}
 use Rattle.par2_slices.proofs.wanted.summarize.Goals as goal
 
 pub returns-then-byte-eq0-clause-kept : goal.returns-then-byte-eq0-clause-kept

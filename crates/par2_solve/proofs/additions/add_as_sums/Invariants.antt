@@ -1,5 +1,4 @@
-use Rattle.par2_solve.proofs.Common.{◌-◌, ◌≤◌, length, lists_of, products, byte_lists}
-use Rattle.par2_solve.proofs.Inverting.{ColumnsAdded}
+use Rattle.par2_solve.proofs.Names.{◌-◌, ◌≤◌, length, lists_of, products, byte_lists, ColumnsAdded}
 use Rattle.par2_solve.proofs.additions.add_as_sums.Given as goal
 
 abbrev pub invariant-loop-from : goal.invariant-loop-from

@@ -1,5 +1,4 @@
-use Rattle.par2_solve.proofs.Common.{◌≤◌, ◌-◌, get_or, length, lists_of, recovered, byte_lists}
-use Rattle.par2_solve.proofs.Inverting.{FirstAdded}
+use Rattle.par2_solve.proofs.Names.{◌≤◌, ◌-◌, get_or, length, lists_of, recovered, byte_lists, FirstAdded}
 use Rattle.par2_solve.proofs.additions.add_by_groups.Given as goal
 
 abbrev pub invariant-loop-at : goal.invariant-loop-at

@@ -1,5 +1,4 @@
-use Rattle.par2_solve.proofs.Common.{lists_of}
-use Rattle.par2_solve.proofs.Inverting.{sum_word, FirstAdded}
+use Rattle.par2_solve.proofs.Names.{lists_of, sum_word, FirstAdded}
 use Rattle.par2_solve.proofs.additions.add_sums.Given as goal
 
 abbrev pub invariant-loop-t : goal.invariant-loop-t

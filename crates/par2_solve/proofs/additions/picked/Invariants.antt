@@ -1,5 +1,4 @@
-use Rattle.par2_solve.proofs.Common.{◌≡◌, take, lists_of}
-use Rattle.par2_solve.specs.BufferContents.{picked}
+use Rattle.par2_solve.proofs.Names.{◌≡◌, take, lists_of, picked}
 use Rattle.par2_solve.proofs.additions.picked.Given as goal
 
 abbrev pub invariant-loop-j : goal.invariant-loop-j

@@ -1,5 +1,4 @@
-use Rattle.par2_solve.proofs.Common.{◌≡◌, length, take, lists_of}
-use Rattle.par2_solve.proofs.Combinations.{all_coefficients}
+use Rattle.par2_solve.proofs.Names.{◌≡◌, length, take, lists_of, all_coefficients}
 use Rattle.par2_solve.proofs.additions.rows_over.Given as goal
 
 abbrev pub invariant-loop-i : goal.invariant-loop-i

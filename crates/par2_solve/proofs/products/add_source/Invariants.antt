@@ -1,5 +1,4 @@
-use Rattle.par2_solve.proofs.Common.{◌-◌, get_or, list_at, lists_of, AddsSource}
-use Rattle.par2_gf16.specs.Words.{word_of}
+use Rattle.par2_solve.proofs.Names.{◌-◌, get_or, list_at, lists_of, AddsSource, word_of}
 use Rattle.par2_solve.proofs.products.add_source.Given as goal
 
 abbrev pub invariant-loop-r : goal.invariant-loop-r

@@ -1,5 +1,4 @@
-use Rattle.par2_solve.proofs.Common.{◌≡◌, ◌≤◌, ◌-◌, ◌%◌, lists_of, syndrome, byte_lists}
-use Rattle.par2_solve.specs.BufferContents.{AreSolvedBy}
+use Rattle.par2_solve.proofs.Names.{◌≡◌, ◌≤◌, ◌-◌, ◌%◌, lists_of, syndrome, byte_lists, AreSolvedBy}
 use Rattle.par2_solve.proofs.rebuild_slices.solved.Given as goal
 
 abbrev pub invariant-loop-from : goal.invariant-loop-from

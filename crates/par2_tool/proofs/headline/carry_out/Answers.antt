@@ -1,5 +1,4 @@
-use Rattle.par2_tool.proofs.Common.{Err, ◌≡◌, ◌+◌, ◌<◌, inl, inr, arith, false, sym, ap, subst, ◌∙◌, err_from_is_err_and, le_trans, refl, by_either, Started, session_of_kept, command_of, calls_requested, outcome_of, failure_for, started_of, IsOpened, IsBack, IsCounted, IsFailed, IsResult, Failed, Failure, words_requested, LeavesStopped}
-use Rattle.par2_tool.proofs.Openings.{opening_calls, perform_calls, run_calls, stands_calls, done_for, files_of, no_way_back, verify_failed, cut_of_command, opening_cause, opening_failed, perform_cause, perform_failed, stopped_opening}
+use Rattle.par2_tool.proofs.Names.{Err, ◌≡◌, ◌+◌, ◌<◌, inl, inr, arith, false, sym, ap, subst, ◌∙◌, err_from_is_err_and, le_trans, refl, by_either, Started, session_of_kept, command_of, calls_requested, outcome_of, failure_for, started_of, IsOpened, IsBack, IsCounted, IsFailed, IsResult, Failed, Failure, words_requested, LeavesStopped, opening_calls, perform_calls, run_calls, stands_calls, done_for, files_of, no_way_back, verify_failed, cut_of_command, opening_cause, opening_failed, perform_cause, perform_failed, stopped_opening}
 use Rattle.par2_tool.proofs.headline.carry_out.Goals.{After-open_for, After-perform}
 use Rattle.par2_tool.proofs.headline.carry_out.Goals as goal
 

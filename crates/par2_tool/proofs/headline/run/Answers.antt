@@ -1,7 +1,4 @@
-use Rattle.par2_tool.proofs.Common.{◌≡◌, ◌≢◌, ◌⊎◌, ◌<◌, inl, ℕ, List, Some, sym, ap, subst, ◌∙◌, map, arith, Action, Repair, Undo, AskFor, TakesEffect, AskForRepair, Folder, CreateArgs, Fault, status_of_fault, may_refuse, string_bytes, false≢true, true}
-use Rattle.par2_spec.specs.Prelude.{HasFiles, KeepsFiles, FollowsCreate}
-use Rattle.par2_tool.proofs.Runs.{IsRefused, Leaves, accepted_with_zero, cut_of, effect_of, leaves_of, repair_refused, repaired, stopped_effect, verify_makes_none, own_status, shown_status, reported_of}
-use Rattle.par2_tool.proofs.Openings.{leaves_first, leaves_older}
+use Rattle.par2_tool.proofs.Names.{◌≡◌, ◌≢◌, ◌⊎◌, ◌<◌, inl, ℕ, List, Some, sym, ap, subst, ◌∙◌, map, arith, Action, Repair, Undo, AskFor, TakesEffect, AskForRepair, Folder, CreateArgs, Fault, status_of_fault, may_refuse, string_bytes, false≢true, true, HasFiles, KeepsFiles, FollowsCreate, IsRefused, Leaves, accepted_with_zero, cut_of, effect_of, leaves_of, repair_refused, repaired, stopped_effect, verify_makes_none, own_status, shown_status, reported_of, leaves_first, leaves_older}
 use Rattle.par2_tool.proofs.headline.run.Goals.{After-run_words}
 use Rattle.par2_tool.proofs.headline.run.Goals as goal
 

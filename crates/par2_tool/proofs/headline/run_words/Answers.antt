@@ -1,5 +1,4 @@
-use Rattle.par2_tool.proofs.Common.{inr, inl, [], refl, sym, subst, map, string_bytes, command_of, status_of, outcome_of, Answered, Failed, IsPrinted, words_requested}
-use Rattle.par2_tool.proofs.Runs.{unread_words}
+use Rattle.par2_tool.proofs.Names.{inr, inl, [], refl, sym, subst, map, string_bytes, command_of, status_of, outcome_of, Answered, Failed, IsPrinted, words_requested, unread_words}
 use Rattle.par2_tool.proofs.headline.run_words.Goals as goal
 
 pub returns-in-Err-clause-reported : goal.returns-in-Err-clause-reported

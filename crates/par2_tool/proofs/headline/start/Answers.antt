@@ -1,7 +1,4 @@
-use Rattle.par2_tool.proofs.Common.{◌∙◌, ◌≡◌, Result, Ok, Err, [], inr, refl, subst, drop, map, string_bytes, Failed, IsUnread, IfOk, IsOk, IfOk-weaker, IfErr-weaker, IsRun, IsShown}
-use Rattle.std.specs.Vec.Iter.{into_iter_items}
-use Rattle.std.specs.IoError.{error_kind}
-use Rattle.par2_tool.specs.Runs.{failure_of_kind}
+use Rattle.par2_tool.proofs.Names.{◌∙◌, ◌≡◌, Result, Ok, Err, [], inr, refl, subst, drop, map, string_bytes, Failed, IsUnread, IfOk, IsOk, IfOk-weaker, IfErr-weaker, IsRun, IsShown, into_iter_items, error_kind, failure_of_kind}
 use Rattle.par2_tool.proofs.headline.start.Goals as goal
 
 -- what holds of all arguments holds of those that were given

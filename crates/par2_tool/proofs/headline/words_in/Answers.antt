@@ -1,9 +1,4 @@
-use Rattle.par2_tool.proofs.Common.{◌≡◌, arith, drop, refl, subst}
-use Rattle.std.specs.Vec.Iter.{into_iter_items}
-use Rattle.std.proofs.lemmas.Grind.{common_steps}
-use Rattle.std.proofs.lemmas.Iterator.{items_from_collect}
-use Rattle.std.proofs.lemmas.Iterator.Adapters.{YieldsList-from_vec}
-use Rattle.par2_spec.specs.Prelude.{Lists}
+use Rattle.par2_tool.proofs.Names.{◌≡◌, arith, drop, refl, subst, into_iter_items, common_steps, items_from_collect, YieldsList-from_vec, Lists}
 use Rattle.par2_tool.proofs.headline.words_in.Goals as goal
 
 pub returns : goal.returns

@@ -1,5 +1,4 @@
-use Rattle.par2_tool.proofs.Common.{err_from_is_err_and, Some, Ok, sym, ap, subst, ◌∙◌, Vec, ℕ, inl, inr, refl, IfOk, option_map, Global, Started, started_of, IsOpened, WasRead}
-use Rattle.par2_tool.proofs.Openings.{bytes_read, keeps_on, opens_after_reading, reads_opens, opened_as_is, opened_new, stands}
+use Rattle.par2_tool.proofs.Names.{err_from_is_err_and, Some, Ok, sym, ap, subst, ◌∙◌, Vec, ℕ, inl, inr, refl, IfOk, option_map, Global, Started, started_of, IsOpened, WasRead, bytes_read, keeps_on, opens_after_reading, reads_opens, opened_as_is, opened_new, stands}
 use Rattle.par2_tool.proofs.opening.open_for.Goals.{After-open_with}
 use Rattle.par2_tool.proofs.opening.open_for.Goals as goal
 

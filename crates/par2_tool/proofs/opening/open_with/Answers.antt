@@ -1,5 +1,4 @@
-use Rattle.par2_tool.proofs.Common.{inl, IfOk-from_err, Ok, refl, sym, subst, rules, Halfway, Opens, KeptSession, session_of_kept, opened_of, session_before, way_left, OpensAsBefore, with_history, IsOpened}
-use Rattle.par2_tool.proofs.Openings.{back_calls, any_err, counted_without, holds_settled, opened_taken_back, opens_still, opens_without, unopened_without, way_applies, stays_keeps, stays_opens}
+use Rattle.par2_tool.proofs.Names.{inl, IfOk-from_err, Ok, refl, sym, subst, rules, Halfway, Opens, KeptSession, session_of_kept, opened_of, session_before, way_left, OpensAsBefore, with_history, IsOpened, back_calls, any_err, counted_without, holds_settled, opened_taken_back, opens_still, opens_without, unopened_without, way_applies, stays_keeps, stays_opens}
 use Rattle.par2_tool.proofs.opening.open_with.Goals.{In-Halfway}
 use Rattle.par2_tool.proofs.opening.open_with.Goals as goal
 

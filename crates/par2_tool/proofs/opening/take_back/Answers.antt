@@ -1,5 +1,4 @@
-use Rattle.par2_tool.proofs.Common.{inl, refl, ◌≡◌, IsTrue, map, length, sym, ap, subst, ◌∙◌, arith, None, length-map, are_applicable, session_of_kept, change_of, session_before, way_left, err_from_is_err_and, with_journal, with_all_changes, Contents, IsStillHalfway, IsStoppedAt}
-use Rattle.par2_tool.proofs.Openings.{still_halfway}
+use Rattle.par2_tool.proofs.Names.{inl, refl, ◌≡◌, IsTrue, map, length, sym, ap, subst, ◌∙◌, arith, None, length-map, are_applicable, session_of_kept, change_of, session_before, way_left, err_from_is_err_and, with_journal, with_all_changes, Contents, IsStillHalfway, IsStoppedAt, still_halfway}
 use Rattle.par2_tool.proofs.opening.take_back.Goals.{After-write_down}
 use Rattle.par2_tool.proofs.opening.take_back.Goals as goal
 

@@ -1,14 +1,9 @@
-use Rattle.par2_tool.proofs.Common.{◌≡◌, ◌+◌, inl, List, length, refl, sym, ap, subst, ◌∙◌, map, take, ℕ, arith, Result, OnOk, IfErr, IfErr-weaker, IfOk-from_err, Memory, err_from_is_err_and, on_ok_weaker, IsVerify, HoldsJournaled, AreAtMost, IsCounted, failure_for, SessionFault, KeptSession, after_write_down, IsStoppedAt, IsWritten, calls_requested, FingerprintsDifferAlong, OpensAsBeforeOrAfter, calls_before, length-map, Verify, session_of_kept, changes_requested, Contents, action_of, command_of, report_view, MayRefuse, Plan, SpellsReady, change_of, changes_by_kind, after_commit, ok_no_err, early_refusal_of, IfOk, effects, PerformFault, ActsOn, IsOn, IsPerformed, RefusesAtOnce}
+use Rattle.par2_tool.proofs.Names.{◌≡◌, ◌+◌, inl, List, length, refl, sym, ap, subst, ◌∙◌, map, take, ℕ, arith, Result, OnOk, IfErr, IfErr-weaker, IfOk-from_err, Memory, err_from_is_err_and, on_ok_weaker, IsVerify, HoldsJournaled, AreAtMost, IsCounted, failure_for, SessionFault, KeptSession, after_write_down, IsStoppedAt, IsWritten, calls_requested, FingerprintsDifferAlong, OpensAsBeforeOrAfter, calls_before, length-map, Verify, session_of_kept, changes_requested, Contents, action_of, command_of, report_view, MayRefuse, Plan, SpellsReady, change_of, changes_by_kind, after_commit, ok_no_err, early_refusal_of, IfOk, effects, PerformFault, ActsOn, IsOn, IsPerformed, RefusesAtOnce, Command, Act, command_leads, Outcome, for_verify, requested_calls, ready_calls, session_counts, any_err, IsMadeReady, none_made, made_ready, ready_applies, written_down, stopped_opens, requested_in_order, as_it_was, not_verify, verify_leaves, verify_refused, written_by}
 use Rattle.par2_spec.specs.Changes as defined
 use Rattle.par2_spec.specs.declared.commands.Action as requested
-use Rattle.par2_spec.specs.declared.commands.Command.{Command}
-use Rattle.par2_spec.specs.declared.commands.Command.TheVariants.{Act}
-use Rattle.par2_spec.proofs.AcceptedCommands.{command_leads}
 use Rattle.par2_disk.specs.declared.store.Store.{Ghosts as StoreOf}
-use Rattle.par2_tool.specs.declared.performing.Outcome.{Outcome}
 use Rattle.par2_tool.specs.declared.performing.Outcome.TheVariants as outcome
 use Rattle.par2_tool.specs.declared.performing.PerformFault.TheVariants.{Session as Refusing}
-use Rattle.par2_tool.proofs.Openings.{for_verify, requested_calls, ready_calls, session_counts, any_err, IsMadeReady, none_made, made_ready, ready_applies, written_down, stopped_opens, requested_in_order, as_it_was, not_verify, verify_leaves, verify_refused, written_by}
 use Rattle.par2_tool.proofs.performing.perform.Goals.{After-write_down, In-Ok-prepare}
 use Rattle.par2_tool.proofs.performing.perform.Goals as goal
 

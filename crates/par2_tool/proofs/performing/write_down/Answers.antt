@@ -1,5 +1,4 @@
-use Rattle.par2_tool.proofs.Common.{◌≡◌, IsTrue, subst, map, arith, refl, IfOk-from_err, ap, sym, ◌∙◌, take_all, length, are_applicable, Contents, with_change, with_journal, on_err_weaker, on_ok_weaker, change_of, with_all_changes, IsStoppedAt}
-use Rattle.par2_tool.proofs.Openings.{any_err, any_ok, applicable_here, begun_remains, ended_remains, made_next, next_remains, some_crash_states, halfway_files}
+use Rattle.par2_tool.proofs.Names.{◌≡◌, IsTrue, subst, map, arith, refl, IfOk-from_err, ap, sym, ◌∙◌, take_all, length, are_applicable, Contents, with_change, with_journal, on_err_weaker, on_ok_weaker, change_of, with_all_changes, IsStoppedAt, any_err, any_ok, applicable_here, begun_remains, ended_remains, made_next, next_remains, some_crash_states, halfway_files}
 use Rattle.par2_tool.proofs.performing.write_down.Goals.{In_ok-begin}
 use Rattle.par2_tool.proofs.performing.write_down.Goals as goal
 

@@ -1,5 +1,4 @@
-use Rattle.par2_tool.proofs.Common.{◌≡◌, ◌+◌, ◌≤◌, length, IsTrue, map, take, are_applicable, change_of, with_all_changes}
-use Rattle.par2_disk.specs.Stores.{IsDurable}
+use Rattle.par2_tool.proofs.Names.{◌≡◌, ◌+◌, ◌≤◌, length, IsTrue, map, take, are_applicable, change_of, with_all_changes, IsDurable}
 use Rattle.par2_tool.proofs.performing.write_down.Given as goal
 
 abbrev pub invariant-loop-change : goal.invariant-loop-change

@@ -1,5 +1,4 @@
-use Rattle.par2_tool.proofs.Common.{◌++◌, ◌∙◌, ap, List, ℕ, refl, subst, codes, flat_map, err_from_is_err_and, Report, verdict_of, line, target_line, verdict_words, report_lines, report_view, PrinterWrote, seen, part_behind, shown_lines_cut, shown_lines_next, take_all, target_report_of, took_both, wrote_less, wrote_then}
-use Rattle.par2_spec.specs.declared.Verdict.{Verdict}
+use Rattle.par2_tool.proofs.Names.{◌++◌, ◌∙◌, ap, List, ℕ, refl, subst, codes, flat_map, err_from_is_err_and, Report, verdict_of, line, target_line, verdict_words, report_lines, report_view, PrinterWrote, seen, part_behind, shown_lines_cut, shown_lines_next, take_all, target_report_of, took_both, wrote_less, wrote_then, Verdict}
 use Rattle.par2_tool.proofs.printing.write_report.Goals as goal
 
 -- the lines between the first and the last, and the last

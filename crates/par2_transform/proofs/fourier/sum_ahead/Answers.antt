@@ -1,6 +1,4 @@
-use Rattle.par2_transform.proofs.Common.{ℕ, ◌+◌, ◌*◌, ◌%◌, ◌^◌, ◌≡◌, refl, sym, ap, ◌∙◌, arith, bit_xor, slice_index, powers_in, field_sum}
-use Rattle.par2_transform.proofs.Subspaces.{field_sum_bit_set, field_sum_bit_unset}
-use Rattle.par2_transform.proofs.StepLaws.{shifted}
+use Rattle.par2_transform.proofs.Names.{ℕ, ◌+◌, ◌*◌, ◌%◌, ◌^◌, ◌≡◌, refl, sym, ap, ◌∙◌, arith, bit_xor, slice_index, powers_in, field_sum, field_sum_bit_set, field_sum_bit_unset, shifted}
 use Rattle.par2_transform.proofs.fourier.sum_ahead.Goals.{then-powers-j-eq1, else-powers-j-eq1}
 use Rattle.par2_transform.proofs.fourier.sum_ahead.Goals as goal
 

@@ -1,5 +1,4 @@
-use Rattle.par2_transform.proofs.Common.{◌≡◌, ◌*◌, sym, ap, ◌∙◌, arith, bit_xor, refl, slice_index, bit_at, field_sum}
-use Rattle.par2_transform.proofs.Subspaces.{field_sum_bit_set, field_sum_bit_unset}
+use Rattle.par2_transform.proofs.Names.{◌≡◌, ◌*◌, sym, ap, ◌∙◌, arith, bit_xor, refl, slice_index, bit_at, field_sum, field_sum_bit_set, field_sum_bit_unset}
 use Rattle.par2_transform.proofs.fourier.sum_at_bits.Goals.{then-x-i-eq1, else-x-i-eq1}
 use Rattle.par2_transform.proofs.fourier.sum_at_bits.Goals as goal
 

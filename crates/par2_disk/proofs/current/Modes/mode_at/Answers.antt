@@ -1,10 +1,4 @@
-use Rattle.std.proofs.Common.{rules}
-use Rattle.std.proofs.lemmas.List.{take_all}
-use Rattle.std.proofs.lemmas.List.Elements.{All-more}
-use Rattle.std.specs.Int.Bits.{and_self}
-use Rattle.par2_disk.proofs.Common.{◌≡◌, ◌∙◌, List, ℕ, subst}
-use Rattle.par2_disk.specs.Runtime.{GivesNoMore, IsWithinThoseNamed}
-use Rattle.par2_disk.proofs.Steps.{narrower, within_first, within_on, within_second}
+use Rattle.par2_disk.proofs.Names.{rules, take_all, All-more, and_self, ◌≡◌, ◌∙◌, List, ℕ, subst, GivesNoMore, IsWithinThoseNamed, narrower, within_first, within_on, within_second}
 use Rattle.par2_disk.proofs.current.Modes.mode_at.Goals.{then-eq, else-eq}
 use Rattle.par2_disk.proofs.current.Modes.mode_at.Goals as goal
 

@@ -1,5 +1,4 @@
-use Rattle.par2_disk.proofs.Common.{take}
-use Rattle.par2_disk.specs.Runtime.{GivesNoMore, IsWithinThoseNamed}
+use Rattle.par2_disk.proofs.Names.{take, GivesNoMore, IsWithinThoseNamed}
 use Rattle.par2_disk.proofs.current.Modes.mode_at.Given as goal
 
 abbrev pub invariant-loop-file : goal.invariant-loop-file

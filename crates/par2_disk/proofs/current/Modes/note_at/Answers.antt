@@ -1,5 +1,4 @@
-use Rattle.par2_disk.proofs.Common.{◌∙◌, ap, bit_and, refl}
-use Rattle.par2_disk.proofs.Steps.{apart_second, apart_within, limited, unlimited, within_on}
+use Rattle.par2_disk.proofs.Names.{◌∙◌, ap, bit_and, refl, apart_second, apart_within, limited, unlimited, within_on}
 use Rattle.par2_disk.proofs.current.Modes.note_at.Goals as goal
 
 pub returns-clause-within : goal.returns-clause-within

@@ -1,5 +1,4 @@
-use Rattle.par2_files.proofs.Common.{arith}
-use Rattle.par2_files.proofs.Lists.{refilled}
+use Rattle.par2_files.proofs.Names.{arith, refilled}
 use Rattle.par2_files.proofs.change.Changes.as_mut_slice.Goals as goal
 
 pub returns : goal.returns

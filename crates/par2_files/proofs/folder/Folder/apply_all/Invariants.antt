@@ -1,5 +1,4 @@
-use Rattle.par2_files.proofs.Common.{change_of}
-use Rattle.par2_files.proofs.Lists.{IsOnItsWay}
+use Rattle.par2_files.proofs.Names.{change_of, IsOnItsWay}
 use Rattle.par2_files.proofs.folder.Folder.apply_all.Given as goal
 
 abbrev pub invariant-loop-change : goal.invariant-loop-change

@@ -1,5 +1,4 @@
-use Rattle.par2_files.proofs.Common.{rules, ℕ, List, Bor, bytes_of, YieldsList-from_map_by, YieldsList-from_slice}
-use Rattle.std.proofs.lemmas.Iterator.Consumers.{map_from_collect}
+use Rattle.par2_files.proofs.Names.{rules, ℕ, List, Bor, bytes_of, YieldsList-from_map_by, YieldsList-from_slice, map_from_collect}
 use Rattle.par2_files.proofs.folder.Folder.bytes_of_each.Goals as goal
 
 pub returns : goal.returns

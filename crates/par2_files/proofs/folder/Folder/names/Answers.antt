@@ -1,5 +1,4 @@
-use Rattle.par2_files.proofs.Common.{◌∙◌, ap, map, rules, sym, File, YieldsList-from_map, YieldsList-from_slice, items_from_collect, IfOk-weaker}
-use Rattle.par2_files.proofs.SortedFiles.{files_of}
+use Rattle.par2_files.proofs.Names.{◌∙◌, ap, map, rules, sym, File, YieldsList-from_map, YieldsList-from_slice, items_from_collect, IfOk-weaker, files_of}
 use Rattle.par2_files.proofs.folder.Folder.names.Goals as goal
 
 pub returns : goal.returns

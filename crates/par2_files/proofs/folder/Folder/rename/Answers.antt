@@ -1,5 +1,4 @@
-use Rattle.par2_files.proofs.Common.{arith}
-use Rattle.par2_files.proofs.SortedFiles.{stays_absent}
+use Rattle.par2_files.proofs.Names.{arith, stays_absent}
 use Rattle.par2_files.proofs.folder.Folder.rename.Goals as goal
 
 pub unreachable-requires : goal.unreachable-requires

@@ -1,5 +1,4 @@
-use Rattle.par2_files.proofs.Common.{sym}
-use Rattle.par2_spec.proofs.NameTests.{no_bytes}
+use Rattle.par2_files.proofs.Names.{sym, no_bytes}
 use Rattle.par2_files.proofs.name.Name.from_bytes.Goals as goal
 
 pub returns-in_default-clause-variant : goal.returns-in_default-clause-variant

@@ -1,5 +1,4 @@
-use Rattle.par2_files.proofs.Common.{◌≡◌, ◌++◌, [], length, take, subst, sym, ◌∙◌, arith, rules, ReachEach}
-use Rattle.par2_files.proofs.Walks.{settled}
+use Rattle.par2_files.proofs.Names.{◌≡◌, ◌++◌, [], length, take, subst, sym, ◌∙◌, arith, rules, ReachEach, settled}
 use Rattle.par2_files.proofs.snapshot.Absorbing.absorb_all.Goals as goal
 
 pub returns-clause-buffers : goal.returns-clause-buffers

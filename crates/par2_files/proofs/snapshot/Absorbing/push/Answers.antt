@@ -1,5 +1,4 @@
-use Rattle.par2_files.proofs.Common.{AreTo}
-use Rattle.par2_files.proofs.Walks.{one_more}
+use Rattle.par2_files.proofs.Names.{AreTo, one_more}
 use Rattle.par2_files.proofs.snapshot.Absorbing.push.Goals as goal
 use Rattle.par2_files.proofs.snapshot.Absorbing.push.Goals.{then-len-eq-LANES+in_ok-absorb_all, else-len-eq-LANES}
 

@@ -1,5 +1,4 @@
-use Rattle.par2_files.proofs.Common.{arith, refl}
-use Rattle.par2_files.proofs.SortedFiles.{put_borrowed_at, put_borrowed_in_gap}
+use Rattle.par2_files.proofs.Names.{arith, refl, put_borrowed_at, put_borrowed_in_gap}
 use Rattle.par2_files.proofs.snapshot.Snapshot.insert.Goals as goal
 
 pub invariant_of-self : goal.invariant_of-self

@@ -1,5 +1,4 @@
-use Rattle.par2_files.proofs.Common.{arith, common_steps, is_before, ◌-◌, ◌∙◌, ap, map, take, drop, take_all, file_of, fingerprint_input}
-use Rattle.par2_files.proofs.SortedFiles.{between, front_further}
+use Rattle.par2_files.proofs.Names.{arith, common_steps, is_before, ◌-◌, ◌∙◌, ap, map, take, drop, take_all, file_of, fingerprint_input, between, front_further}
 use Rattle.par2_files.proofs.snapshot.Snapshot.pending_between.Goals as goal
 
 pub returns : goal.returns

@@ -1,5 +1,4 @@
-use Rattle.par2_files.proofs.Common.{rules, of_calls, always_returns_same, name_cmp, file_of}
-use Rattle.par2_files.proofs.SortedFiles.{searched_files}
+use Rattle.par2_files.proofs.Names.{rules, of_calls, always_returns_same, name_cmp, file_of, searched_files}
 use Rattle.par2_files.proofs.snapshot.Snapshot.search.Goals as goal
 
 pub returns : goal.returns

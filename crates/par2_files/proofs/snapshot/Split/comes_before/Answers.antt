@@ -1,5 +1,4 @@
-use Rattle.par2_files.proofs.Common.{sym, ◌∙◌}
-use Rattle.par2_files.proofs.SortedFiles.{later}
+use Rattle.par2_files.proofs.Names.{sym, ◌∙◌, later}
 use Rattle.par2_files.proofs.snapshot.Split.comes_before.Goals as goal
 
 pub returns-in-At-clause-further : goal.returns-in-At-clause-further

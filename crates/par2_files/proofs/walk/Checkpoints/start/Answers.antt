@@ -1,5 +1,4 @@
-use Rattle.par2_files.proofs.Common.{◌≡◌, IsTrue, get_or, refl, rules, subst, sym, HasAbsorbed, bytes_where, is_below, ℕ, List, Midstate}
-use Rattle.par2_files.proofs.Walks.{sets_out, sets_out_first}
+use Rattle.par2_files.proofs.Names.{◌≡◌, IsTrue, get_or, refl, rules, subst, sym, HasAbsorbed, bytes_where, is_below, ℕ, List, Midstate, sets_out, sets_out_first}
 use Rattle.par2_files.proofs.walk.Checkpoints.start.Goals as goal
 
 pub loop-name-init : goal.loop-name-init

@@ -1,5 +1,4 @@
-use Rattle.par2_files.proofs.Common.{◌≡◌, [], ◌∷◌, map, false, Folder, group_buffers, touches, AreCheckpointsOf, HaveAbsorbed, change_of}
-use Rattle.std.specs.List.{All}
+use Rattle.par2_files.proofs.Names.{◌≡◌, [], ◌∷◌, map, false, Folder, group_buffers, touches, AreCheckpointsOf, HaveAbsorbed, change_of, All}
 use Rattle.par2_files.proofs.walk.Checkpoints.start.Given as goal
 
 abbrev pub invariant-loop-name : goal.invariant-loop-name

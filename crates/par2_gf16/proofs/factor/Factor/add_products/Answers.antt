@@ -1,5 +1,4 @@
-use Rattle.par2_gf16.proofs.Common.{ℕ, ◌*◌, ap, ◌∙◌, arith, mul, word_of}
-use Rattle.par2_gf16.proofs.Words.{all_added, block_more, in_vector, product_past}
+use Rattle.par2_gf16.proofs.Names.{ℕ, ◌*◌, ap, ◌∙◌, arith, mul, word_of, all_added, block_more, in_vector, product_past}
 use Rattle.par2_gf16.proofs.factor.Factor.add_products.Goals as goal
 
 pub loop-k-preserved : goal.loop-k-preserved

@@ -1,6 +1,4 @@
-use Rattle.std.proofs.Common.{rules}
-use Rattle.par2_gf16.proofs.Common.{ap₂, ◌∙◌, bit_xor}
-use Rattle.par2_gf16.proofs.Words.{product_of_nibbles}
+use Rattle.par2_gf16.proofs.Names.{rules, ap₂, ◌∙◌, bit_xor, product_of_nibbles}
 use Rattle.par2_gf16.proofs.factor.Factor.times.Goals as goal
 
 pub returns : goal.returns

@@ -1,5 +1,4 @@
-use Rattle.par2_gf16.proofs.Common.{◌%◌, ◌/◌, ◌++◌, ◌∙◌, ap₂, mul}
-use Rattle.par2_gf16.proofs.Words.{byte_table}
+use Rattle.par2_gf16.proofs.Names.{◌%◌, ◌/◌, ◌++◌, ◌∙◌, ap₂, mul, byte_table}
 use Rattle.par2_gf16.proofs.factor.NibbleProducts.new.Goals as goal
 
 pub invariant_of-result : goal.invariant_of-result

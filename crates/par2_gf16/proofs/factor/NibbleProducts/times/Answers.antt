@@ -1,5 +1,4 @@
-use Rattle.par2_gf16.proofs.Common.{◌%◌, ◌/◌, mul}
-use Rattle.par2_gf16.proofs.Words.{product_in}
+use Rattle.par2_gf16.proofs.Names.{◌%◌, ◌/◌, mul, product_in}
 use Rattle.par2_gf16.proofs.factor.NibbleProducts.times.Goals as goal
 
 pub returns : goal.returns

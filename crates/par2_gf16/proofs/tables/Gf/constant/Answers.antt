@@ -1,6 +1,4 @@
-use Rattle.par2_gf16.proofs.Common.{◌∙◌, arith}
-use Rattle.std.proofs.lemmas.List.{get_or_default}
-use Rattle.par2_gf16.proofs.TableLaws.{constant_is, constants_count}
+use Rattle.par2_gf16.proofs.Names.{◌∙◌, arith, get_or_default, constant_is, constants_count}
 use Rattle.par2_gf16.proofs.tables.Gf.constant.Goals as goal
 
 pub index-requires : goal.index-requires

@@ -1,6 +1,4 @@
-use Rattle.par2_gf16.proofs.Common.{◌≡◌, ◌<◌, get_or, ap, ◌∙◌, arith, sym, subst, pow}
-use Rattle.std.proofs.lemmas.List.{get_or_default}
-use Rattle.par2_gf16.proofs.TableLaws.{log_is}
+use Rattle.par2_gf16.proofs.Names.{◌≡◌, ◌<◌, get_or, ap, ◌∙◌, arith, sym, subst, pow, get_or_default, log_is}
 use Rattle.par2_gf16.proofs.tables.Gf.log.Goals as goal
 
 pub returns : goal.returns

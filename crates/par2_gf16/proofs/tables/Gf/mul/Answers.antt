@@ -1,5 +1,4 @@
-use Rattle.par2_gf16.proofs.Common.{ap, sym, ◌∙◌, mul, zero-product, product-zero}
-use Rattle.par2_gf16.proofs.TableLaws.{product_is}
+use Rattle.par2_gf16.proofs.Names.{ap, sym, ◌∙◌, mul, zero-product, product-zero, product_is}
 use Rattle.par2_gf16.proofs.tables.Gf.mul.Goals.{then-a-eq0-via-then-a-eq0, then-a-eq0-via-else-a-eq0+then-b-eq0}
 use Rattle.par2_gf16.proofs.tables.Gf.mul.Goals as goal
 

@@ -1,6 +1,4 @@
-use Rattle.par2_gf16.proofs.Common.{ℕ, ◌*◌, ap, ◌∙◌, arith, mul, product-zero, word}
-use Rattle.par2_spec.proofs.ListsLaws.{word_past}
-use Rattle.par2_gf16.proofs.Words.{all_added, block_more}
+use Rattle.par2_gf16.proofs.Names.{ℕ, ◌*◌, ap, ◌∙◌, arith, mul, product-zero, word, word_past, all_added, block_more}
 use Rattle.par2_gf16.proofs.tables.Gf.mul_add_by.Goals as goal
 
 pub loop-k-preserved : goal.loop-k-preserved

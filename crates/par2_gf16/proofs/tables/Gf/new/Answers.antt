@@ -1,5 +1,4 @@
-use Rattle.par2_gf16.proofs.Common.{arith, sym, ◌∙◌}
-use Rattle.par2_gf16.proofs.TableLaws.{first_start, first_pushed, first_kept, second_step, tables_made}
+use Rattle.par2_gf16.proofs.Names.{arith, sym, ◌∙◌, first_start, first_pushed, first_kept, second_step, tables_made}
 use Rattle.par2_gf16.proofs.tables.Gf.new.Goals.{then-is_constant_power+in_ok-push-2, else-is_constant_power}
 use Rattle.par2_gf16.proofs.tables.Gf.new.Goals as goal
 

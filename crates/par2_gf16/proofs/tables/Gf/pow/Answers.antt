@@ -1,5 +1,4 @@
-use Rattle.par2_gf16.proofs.Common.{◌<◌, ap, sym, ◌∙◌, arith, pow}
-use Rattle.par2_gf16.proofs.TableLaws.{power_is, zero_power}
+use Rattle.par2_gf16.proofs.Names.{◌<◌, ap, sym, ◌∙◌, arith, pow, power_is, zero_power}
 use Rattle.par2_gf16.proofs.tables.Gf.pow.Goals as goal
 
 pub returns-then-e-eq0 : goal.returns-then-e-eq0

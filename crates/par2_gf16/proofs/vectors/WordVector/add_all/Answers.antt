@@ -1,6 +1,4 @@
-use Rattle.std.proofs.Common.{rules}
-use Rattle.par2_gf16.proofs.Common.{◌++◌, ◌*◌}
-use Rattle.par2_gf16.proofs.Words.{block_added, both_added}
+use Rattle.par2_gf16.proofs.Names.{rules, ◌++◌, ◌*◌, block_added, both_added}
 use Rattle.par2_gf16.proofs.vectors.WordVector.add_all.Goals as goal
 
 pub returns : goal.returns

@@ -1,5 +1,4 @@
-use Rattle.par2_gf16.proofs.Common.{◌+◌, ◌-◌, ◌*◌, ◌<◌, ◌≡◌, length, bit_xor, ap, ap₂, ◌∙◌, arith, word_in}
-use Rattle.par2_gf16.proofs.Words.{added_to_zeros, end_added, words_kept, zeros_read}
+use Rattle.par2_gf16.proofs.Names.{◌+◌, ◌-◌, ◌*◌, ◌<◌, ◌≡◌, length, bit_xor, ap, ap₂, ◌∙◌, arith, word_in, added_to_zeros, end_added, words_kept, zeros_read}
 use Rattle.par2_gf16.proofs.vectors.WordVector.add_first.Goals as goal
 
 pub returns : goal.returns

@@ -1,5 +1,4 @@
-use Rattle.par2_gf16.proofs.Common.{drop}
-use Rattle.par2_gf16.proofs.Words.{lane_word}
+use Rattle.par2_gf16.proofs.Names.{drop, lane_word}
 use Rattle.par2_gf16.proofs.vectors.WordVector.from_bytes.Goals as goal
 
 pub returns : goal.returns

@@ -1,5 +1,4 @@
-use Rattle.par2_gf16.proofs.Common.{◌∙◌, drop, length, refl, replicate}
-use Rattle.par2_gf16.proofs.Words.{padded_word}
+use Rattle.par2_gf16.proofs.Names.{◌∙◌, drop, length, refl, replicate, padded_word}
 use Rattle.par2_gf16.proofs.vectors.WordVector.last.Goals as goal
 
 pub returns : goal.returns

@@ -1,5 +1,4 @@
-use Rattle.std.proofs.Common.{rules}
-use Rattle.par2_gf16.proofs.Words.{sum_in}
+use Rattle.par2_gf16.proofs.Names.{rules, sum_in}
 use Rattle.par2_gf16.proofs.vectors.WordVector.plus.Goals as goal
 
 pub returns-clause-sums : goal.returns-clause-sums

@@ -1,5 +1,4 @@
-use Rattle.par2_gf16.proofs.Common.{◌+◌, ◌*◌, ap₂, lane_of}
-use Rattle.par2_gf16.proofs.Words.{zeros_read}
+use Rattle.par2_gf16.proofs.Names.{◌+◌, ◌*◌, ap₂, lane_of, zeros_read}
 use Rattle.par2_gf16.proofs.vectors.WordVector.zeros.Goals as goal
 
 pub returns : goal.returns

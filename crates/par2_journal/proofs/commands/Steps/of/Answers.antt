@@ -1,8 +1,4 @@
-use Rattle.par2_journal.proofs.Common.{◌≡◌, map, sym, subst, ◌∙◌, rules, IfOk, step_of, change_of}
-use Rattle.par2_journal.specs.StepViews.{step_view}
-use Rattle.std.proofs.lemmas.Iterator.{YieldsList-from_map_by, YieldsList-from_slice}
-use Rattle.std.proofs.lemmas.Iterator.Consumers.{map_from_collect}
-use Rattle.std.proofs.lemmas.Simd.{map-map}
+use Rattle.par2_journal.proofs.Names.{◌≡◌, map, sym, subst, ◌∙◌, rules, IfOk, step_of, change_of, step_view, YieldsList-from_map_by, YieldsList-from_slice, map_from_collect, map-map}
 use Rattle.par2_journal.proofs.commands.Steps.of.Goals as goal
 
 pub returns : goal.returns

@@ -1,5 +1,4 @@
-use Rattle.par2_journal.proofs.Common.{Folder, change_of, AreNamesOf, names_in}
-use Rattle.par2_journal.proofs.TriedNames.{IsSoFar, tried}
+use Rattle.par2_journal.proofs.Names.{Folder, change_of, AreNamesOf, names_in, IsSoFar, tried}
 use Rattle.par2_journal.proofs.opening.Names.go_along.Given as goal
 
 abbrev pub invariant-loop-change : goal.invariant-loop-change

@@ -1,6 +1,4 @@
-use Rattle.par2_journal.proofs.Common.{sym, ◌∙◌}
-use Rattle.par2_journal.specs.declared.opening.Next.TheVariants.{Undo, Redo}
-use Rattle.par2_journal.proofs.Entries.{acted}
+use Rattle.par2_journal.proofs.Names.{sym, ◌∙◌, Undo, Redo, acted}
 use Rattle.par2_journal.proofs.session.Session.act.Goals as goal
 
 pub returns-in-Undo-clause-done : goal.returns-in-Undo-clause-done

@@ -1,6 +1,4 @@
-use Rattle.par2_journal.proofs.Common.{ap, sym, subst, ◌∙◌, arith, insert, takes_all, KeptSession}
-use Rattle.std.specs.Prelude.{IsTrue}
-use Rattle.par2_journal.proofs.Entries.{length_added, done_walks}
+use Rattle.par2_journal.proofs.Names.{ap, sym, subst, ◌∙◌, arith, insert, takes_all, KeptSession, IsTrue, length_added, done_walks}
 use Rattle.par2_journal.proofs.session.Session.add.Goals as goal
 
 pub invariant_of-self : goal.invariant_of-self

@@ -1,5 +1,4 @@
-use Rattle.par2_journal.proofs.Common.{ap, subst, ◌∙◌, takes_all, CanWalk}
-use Rattle.par2_journal.proofs.Readiness.{move_taken}
+use Rattle.par2_journal.proofs.Names.{ap, subst, ◌∙◌, takes_all, CanWalk, move_taken}
 use Rattle.par2_journal.proofs.session.Session.digests_ahead.Goals as goal
 
 pub digests-requires-clause-applies : goal.digests-requires-clause-applies

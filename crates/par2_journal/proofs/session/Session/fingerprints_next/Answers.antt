@@ -1,5 +1,4 @@
-use Rattle.par2_journal.proofs.Common.{ap, ◌∙◌, takes_all, kept_session}
-use Rattle.par2_journal.proofs.Readiness.{move_taken}
+use Rattle.par2_journal.proofs.Names.{ap, ◌∙◌, takes_all, kept_session, move_taken}
 use Rattle.par2_journal.proofs.session.Session.fingerprints_next.Goals as goal
 
 pub digests-requires-clause-applies : goal.digests-requires-clause-applies

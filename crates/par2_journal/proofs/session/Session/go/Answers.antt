@@ -1,5 +1,4 @@
-use Rattle.par2_journal.proofs.Common.{◌≡◌, ◌≢◌, ◌<◌, ◌+◌, ◌-◌, [], length, length-set, ap, subst, ◌∙◌, arith, sym, vec_len, vec_capacity, KeptSession, kept_undone, kept_redone, kept_session, Next, entries_for, moved}
-use Rattle.par2_journal.proofs.Entries.{undo_there, redo_there, undo_taken, undone_to, undone_walks, next_undo_is, redo_taken, redone_to, redone_walks, next_redo_is}
+use Rattle.par2_journal.proofs.Names.{◌≡◌, ◌≢◌, ◌<◌, ◌+◌, ◌-◌, [], length, length-set, ap, subst, ◌∙◌, arith, sym, vec_len, vec_capacity, KeptSession, kept_undone, kept_redone, kept_session, Next, entries_for, moved, undo_there, redo_there, undo_taken, undone_to, undone_walks, next_undo_is, redo_taken, redone_to, redone_walks, next_redo_is}
 use Rattle.par2_journal.proofs.session.Session.go.Goals.{In-Undo, In-Redo}
 use Rattle.par2_journal.proofs.session.Session.go.Goals as goal
 

@@ -1,6 +1,4 @@
-use Rattle.par2_journal.proofs.Common.{ap, arith, drop, reverse, subst, sym, take, OnlyGrew, grown_can_walk, kept_session}
-use Rattle.par2_files.specs.Checkpoints.{AreCheckpointsOf}
-use Rattle.par2_journal.proofs.Readiness.{along_still}
+use Rattle.par2_journal.proofs.Names.{ap, arith, drop, reverse, subst, sym, take, OnlyGrew, grown_can_walk, kept_session, AreCheckpointsOf, along_still}
 use Rattle.par2_journal.proofs.session.Session.make_room.Goals as goal
 
 pub invariant_of-self-2 : goal.invariant_of-self-2

@@ -1,5 +1,4 @@
-use Rattle.par2_journal.proofs.Common.{◌∙◌, map, ap, step_of}
-use Rattle.par2_journal.proofs.Readiness.{can_change}
+use Rattle.par2_journal.proofs.Names.{◌∙◌, map, ap, step_of, can_change}
 use Rattle.par2_journal.proofs.session.Session.make_way.Goals as goal
 
 pub returns-clause-can : goal.returns-clause-can

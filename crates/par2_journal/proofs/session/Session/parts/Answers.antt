@@ -1,5 +1,4 @@
-use Rattle.par2_journal.proofs.Common.{[], ◌++◌, ◌-◌, sym, ap, append-nil, ◌∙◌, vec_len, vec_capacity, KeptSession, fingerprint, kept_journal}
-use Rattle.par2_journal.proofs.Readiness.{settled_at, settled_with}
+use Rattle.par2_journal.proofs.Names.{[], ◌++◌, ◌-◌, sym, ap, append-nil, ◌∙◌, vec_len, vec_capacity, KeptSession, fingerprint, kept_journal, settled_at, settled_with}
 use Rattle.par2_journal.proofs.session.Session.parts.Goals as goal
 
 pub returns-clause-journal : goal.returns-clause-journal

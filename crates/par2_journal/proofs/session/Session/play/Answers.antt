@@ -1,6 +1,4 @@
-use Rattle.par2_journal.proofs.Common.{◌≡◌, ◌+◌, map, sym, subst, arith, action_of, Execution, Ended, session_of_kept, history_of, run_leaves}
-use Rattle.par2_spec.proofs.FolderLaws.{walked_is_valid}
-use Rattle.par2_journal.proofs.Entries.{give_back, none_left, on_accepted, on_refused}
+use Rattle.par2_journal.proofs.Names.{◌≡◌, ◌+◌, map, sym, subst, arith, action_of, Execution, Ended, session_of_kept, history_of, run_leaves, walked_is_valid, give_back, none_left, on_accepted, on_refused}
 use Rattle.par2_journal.proofs.session.Session.play.Goals.{then-act, else-act}
 use Rattle.par2_journal.proofs.session.Session.play.Goals as goal
 

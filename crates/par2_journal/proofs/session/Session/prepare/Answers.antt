@@ -1,5 +1,4 @@
-use Rattle.par2_journal.proofs.Common.{map, string_bytes, ap, Create, Repair, Purge, action_of, create_args_of}
-use Rattle.par2_journal.proofs.Readiness.{prepares}
+use Rattle.par2_journal.proofs.Names.{map, string_bytes, ap, Create, Repair, Purge, action_of, create_args_of, prepares}
 use Rattle.par2_journal.proofs.session.Session.prepare.Goals as goal
 
 pub returns-in-Create : goal.returns-in-Create

@@ -1,5 +1,4 @@
-use Rattle.par2_journal.proofs.Common.{Create, create_args_of, ok_no_err}
-use Rattle.par2_journal.proofs.Readiness.{plan_ready}
+use Rattle.par2_journal.proofs.Names.{Create, create_args_of, ok_no_err, plan_ready}
 use Rattle.par2_journal.proofs.session.Session.prepare_create.Goals as goal
 
 pub returns : goal.returns

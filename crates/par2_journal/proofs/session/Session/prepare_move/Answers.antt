@@ -1,7 +1,5 @@
-use Rattle.par2_journal.proofs.Common.{◌∙◌, ap, sym, subst, step_of, action_for}
+use Rattle.par2_journal.proofs.Names.{◌∙◌, ap, sym, subst, step_of, action_for, MayRefuse, nothing_to_move, ready_move}
 use Rattle.std.specs.Prelude.{map}
-use Rattle.par2_journal.specs.Commands.{MayRefuse}
-use Rattle.par2_journal.proofs.Readiness.{nothing_to_move, ready_move}
 use Rattle.par2_journal.proofs.session.Session.prepare_move.Goals as goal
 
 pub returns-in_default-clause-refused : goal.returns-in_default-clause-refused

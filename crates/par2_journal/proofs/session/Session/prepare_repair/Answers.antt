@@ -1,5 +1,4 @@
-use Rattle.par2_journal.proofs.Common.{◌≡◌, List, ℕ, Bool, Some, map, string_bytes, sym, subst, Global, err_from_is_err_and, Repair, FolderState, String, IsDraft, Draft, ok_no_err, early_refusal, ap, ◌∙◌, takes_all, prints_along}
-use Rattle.par2_journal.proofs.Readiness.{draft_ready, draft_refused}
+use Rattle.par2_journal.proofs.Names.{◌≡◌, List, ℕ, Bool, Some, map, string_bytes, sym, subst, Global, err_from_is_err_and, Repair, FolderState, String, IsDraft, Draft, ok_no_err, early_refusal, ap, ◌∙◌, takes_all, prints_along, draft_ready, draft_refused}
 use Rattle.par2_journal.proofs.session.Session.prepare_repair.Goals as goal
 
 -- the draft is of the folder that is borrowed

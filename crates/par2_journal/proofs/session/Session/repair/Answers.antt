@@ -1,6 +1,4 @@
-use Rattle.par2_journal.proofs.Common.{map, string_bytes, subst, OnOk, on_ok_weaker, Repair, session_of_kept, accepted_next, walked_is_valid}
-use Rattle.par2_spec.specs.Prelude.{AreFewFor, AnswersRepair, IsRepaired, folder_left}
-use Rattle.par2_laws.proofs.RepairAnswers.{answered, session_answers, stands_in_front, together}
+use Rattle.par2_journal.proofs.Names.{map, string_bytes, subst, OnOk, on_ok_weaker, Repair, session_of_kept, accepted_next, walked_is_valid, AreFewFor, AnswersRepair, IsRepaired, folder_left, answered, session_answers, stands_in_front, together}
 use Rattle.par2_journal.proofs.session.Session.repair.Goals as goal
 
 abbrev Is : goal.After-repair_as_requested → Type 0

@@ -1,7 +1,4 @@
-use Rattle.par2_journal.proofs.Common.{◌≡◌, ◌+◌, ◌-◌, ◌++◌, ◌∷◌, [], true, length, take, get_or, vec_len, vec_capacity, fingerprint, effects, way_back, state_files, kept_done, kept_journal, Changing, sym, ap, subst, ◌∙◌, takes_all, FolderState, KeptSession, kept_session}
-use Rattle.par2_journal.specs.Sessions.{IsKeptSession}
-use Rattle.par2_journal.proofs.Readiness.{at_end, each_after, folders_count, both_spelled, done_at, settled_with}
-use Rattle.par2_journal.proofs.Entries.{back_taken, back_leads, back_again, back_length}
+use Rattle.par2_journal.proofs.Names.{◌≡◌, ◌+◌, ◌-◌, ◌++◌, ◌∷◌, [], true, length, take, get_or, vec_len, vec_capacity, fingerprint, effects, way_back, state_files, kept_done, kept_journal, Changing, sym, ap, subst, ◌∙◌, takes_all, FolderState, KeptSession, kept_session, IsKeptSession, at_end, each_after, folders_count, both_spelled, done_at, settled_with, back_taken, back_leads, back_again, back_length}
 use Rattle.par2_journal.proofs.session.Session.spell_changes.Goals.{After-apply_and_invert, After-apply_and_invert-2}
 use Rattle.par2_journal.proofs.session.Session.spell_changes.Goals as goal
 

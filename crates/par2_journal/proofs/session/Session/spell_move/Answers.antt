@@ -1,6 +1,4 @@
-use Rattle.par2_journal.proofs.Common.{◌≡◌, [], length, get_or, sym, ap, subst, ◌∙◌, CanWalk, FolderState, KeptSession, Moving, fingerprint, way_back, entries_for, kept_journal, moved, next_changes, state_files}
-use Rattle.par2_journal.proofs.Readiness.{at_end, each_after, folders_count, both_spelled, moved_back, moved_entry, moved_files, moved_some}
-use Rattle.par2_journal.proofs.Entries.{back_length}
+use Rattle.par2_journal.proofs.Names.{◌≡◌, [], length, get_or, sym, ap, subst, ◌∙◌, CanWalk, FolderState, KeptSession, Moving, fingerprint, way_back, entries_for, kept_journal, moved, next_changes, state_files, at_end, each_after, folders_count, both_spelled, moved_back, moved_entry, moved_files, moved_some, back_length}
 use Rattle.par2_journal.proofs.session.Session.spell_move.Goals.{In-Some}
 use Rattle.par2_journal.proofs.session.Session.spell_move.Goals as goal
 

@@ -1,6 +1,4 @@
-use Rattle.par2_matrix.proofs.Common.{◌≡◌, ◌≤◌, ◌↔◌, Bool, true, false, rules, subst, refl, ◌∙◌, arith, length, Equations, rank, IsTheSolution, lists_of}
-use Rattle.par2_matrix.proofs.Systems.{rank_most}
-use Rattle.par2_matrix.proofs.Promises.{rank_view, the_solution, not_full}
+use Rattle.par2_matrix.proofs.Names.{◌≡◌, ◌≤◌, ◌↔◌, Bool, true, false, rules, subst, refl, ◌∙◌, arith, length, Equations, rank, IsTheSolution, lists_of, rank_most, rank_view, the_solution, not_full}
 use Rattle.par2_matrix.proofs.system.System.into_solution.Goals as goal
 
 pub returns-then-self-len-clause-when : goal.returns-then-self-len-clause-when

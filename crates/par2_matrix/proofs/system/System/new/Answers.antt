@@ -1,6 +1,4 @@
-use Rattle.par2_matrix.proofs.Common.{◌∙◌, sym, subst, IsReduced, echelon, lists_of, length-lists_of}
-use Rattle.par2_matrix.proofs.Systems.{none_reduced}
-use Rattle.par2_matrix.proofs.Promises.{new_system}
+use Rattle.par2_matrix.proofs.Names.{◌∙◌, sym, subst, IsReduced, echelon, lists_of, length-lists_of, none_reduced, new_system}
 use Rattle.par2_matrix.proofs.system.System.new.Goals as goal
 
 pub invariant_of-result : goal.invariant_of-result

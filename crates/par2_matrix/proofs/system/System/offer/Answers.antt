@@ -1,6 +1,4 @@
-use Rattle.par2_matrix.proofs.Common.{◌≡◌, ◌+◌, ℕ, List, length, rules, refl, sym, ap, ◌∙◌, subst, with_items, with_items_is, Equations, CutDown, IsIndependent, IsDependent, echelon, echelon_of, IsReduced, system_of, lists_of, length-lists_of}
-use Rattle.par2_matrix.proofs.Systems.{IsTaken, offered}
-use Rattle.par2_matrix.proofs.Promises.{cuts, determines, follows}
+use Rattle.par2_matrix.proofs.Names.{◌≡◌, ◌+◌, ℕ, List, length, rules, refl, sym, ap, ◌∙◌, subst, with_items, with_items_is, Equations, CutDown, IsIndependent, IsDependent, echelon, echelon_of, IsReduced, system_of, lists_of, length-lists_of, IsTaken, offered, cuts, determines, follows}
 use Rattle.par2_matrix.proofs.system.System.offer.Goals as goal
 
 -- the rows and the right-hand sides after the equation was put in

@@ -1,6 +1,4 @@
-use Rattle.par2_matrix.proofs.Common.{◌<◌, ◌≡◌, ◌≤◌, ◌↔◌, subst, sym, ◌∙◌, ap, Equations, rank, IsUndetermined, OnlyZeroIsKilled}
-use Rattle.par2_matrix.proofs.Systems.{rank_most}
-use Rattle.par2_matrix.proofs.Promises.{rank_view, rank_full, undetermined}
+use Rattle.par2_matrix.proofs.Names.{◌<◌, ◌≡◌, ◌≤◌, ◌↔◌, subst, sym, ◌∙◌, ap, Equations, rank, IsUndetermined, OnlyZeroIsKilled, rank_most, rank_view, rank_full, undetermined}
 use Rattle.par2_matrix.proofs.system.System.rank.Goals as goal
 
 pub returns-clause-value : goal.returns-clause-value

@@ -1,5 +1,4 @@
-use Rattle.par2_md5_lanes.proofs.Common.{◌≡◌, ◌∙◌, ap, refl, length, length-drop, drop, arith, drop_all, bytes_left, message_of, part_bytes}
-use Rattle.par2_md5_lanes.proofs.BlockLaws.{filled_more, rest_more, within_more}
+use Rattle.par2_md5_lanes.proofs.Names.{◌≡◌, ◌∙◌, ap, refl, length, length-drop, drop, arith, drop_all, bytes_left, message_of, part_bytes, filled_more, rest_more, within_more}
 use Rattle.par2_md5_lanes.proofs.blocks.Feed.fill.Goals as goal
 
 pub loop-filled-preserved : goal.loop-filled-preserved

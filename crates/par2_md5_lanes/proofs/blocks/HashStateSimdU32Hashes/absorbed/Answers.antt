@@ -1,5 +1,4 @@
-use Rattle.par2_md5_lanes.proofs.Common.{◌*◌, arith, drop, take, rules, lane, slice_index, hash_behind, buffer_at}
-use Rattle.par2_md5_lanes.proofs.BlockLaws.{after_words, hash_one_more}
+use Rattle.par2_md5_lanes.proofs.Names.{◌*◌, arith, drop, take, rules, lane, slice_index, hash_behind, buffer_at, after_words, hash_one_more}
 use Rattle.par2_md5_lanes.proofs.blocks.HashStateSimdU32Hashes.absorbed.Goals as goal
 
 pub loop-block-init : goal.loop-block-init

@@ -1,5 +1,4 @@
-use Rattle.par2_md5_lanes.proofs.Common.{◌<◌, ◌^◌, get_or, arith, Each1-get_or, below_from_Fits, w32}
-use Rattle.par2_md5_lanes.proofs.LaneLaws.{lanes, without_rest_of_i}
+use Rattle.par2_md5_lanes.proofs.Names.{◌<◌, ◌^◌, get_or, arith, Each1-get_or, below_from_Fits, w32, lanes, without_rest_of_i}
 use Rattle.par2_md5_lanes.proofs.blocks.SimdU32Lanes.plus_one_and_i.Goals as goal
 
 pub returns : goal.returns

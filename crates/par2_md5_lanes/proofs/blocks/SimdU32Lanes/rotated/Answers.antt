@@ -1,6 +1,5 @@
-use Rattle.par2_md5_lanes.proofs.Common.{◌%◌, ◌-◌, arith, get_or-replicate, shifts_fit_splat}
+use Rattle.par2_md5_lanes.proofs.Names.{◌%◌, ◌-◌, arith, get_or-replicate, shifts_fit_splat, lanes}
 use Rattle.std.proofs.lemmas.Simd.{length-replicate}
-use Rattle.par2_md5_lanes.proofs.LaneLaws.{lanes}
 use Rattle.par2_md5_lanes.proofs.blocks.SimdU32Lanes.rotated.Goals as goal
 
 pub overflow_shl-result : goal.overflow_shl-result

@@ -1,6 +1,4 @@
-use Rattle.par2_md5_lanes.proofs.Common.{◌*◌, ◌+◌, ◌-◌, ◌∙◌, ℕ, List, ap, arith, refl, drop, length, take, block_words, slice_index, lane, hash_behind, buffer_at}
-use Rattle.par2_md5_lanes.proofs.BlockLaws.{after_words, hash_one_more}
-use Rattle.par2_md5_lanes.proofs.LaneLaws.{bytes_of_high, bytes_of_low, have_fewer, have_high, have_low}
+use Rattle.par2_md5_lanes.proofs.Names.{◌*◌, ◌+◌, ◌-◌, ◌∙◌, ℕ, List, ap, arith, refl, drop, length, take, block_words, slice_index, lane, hash_behind, buffer_at, after_words, hash_one_more, bytes_of_high, bytes_of_low, have_fewer, have_high, have_low}
 use Rattle.par2_md5_lanes.proofs.blocks.SixteenHashes.absorbed.Goals as goal
 
 pub read_words-low-requires : goal.read_words-low-requires

@@ -1,5 +1,4 @@
-use Rattle.par2_md5_lanes.proofs.Common.{◌≡◌, ◌++◌, ◌*◌, ◌/◌, ◌%◌, ℕ, List, ap, arith, drop, length, length-append, take, ◌∙◌, bytes_left, message_of}
-use Rattle.par2_md5_lanes.proofs.BlockLaws.{goes_on, rest_goes_on}
+use Rattle.par2_md5_lanes.proofs.Names.{◌≡◌, ◌++◌, ◌*◌, ◌/◌, ◌%◌, ℕ, List, ap, arith, drop, length, length-append, take, ◌∙◌, bytes_left, message_of, goes_on, rest_goes_on}
 use Rattle.par2_md5_lanes.proofs.midstate.Midstate.absorb.Goals as goal
 
 pub returns : goal.returns

@@ -1,6 +1,4 @@
-use Rattle.par2_md5_lanes.proofs.Common.{◌≡◌, length, length-drop, ◌∙◌, arith, bytes_left}
-use borrow.Rule.Slice.PartMut.{post_of}
-use Rattle.par2_md5_lanes.proofs.BlockLaws.{at_the_end, blocks_more, kept_rest}
+use Rattle.par2_md5_lanes.proofs.Names.{◌≡◌, length, length-drop, ◌∙◌, arith, bytes_left, post_of, at_the_end, blocks_more, kept_rest}
 use Rattle.par2_md5_lanes.proofs.tasks.LaneTask.advance.Goals as goal
 
 pub returns-then-count-lt64 : goal.returns-then-count-lt64

@@ -1,5 +1,4 @@
-use Rattle.par2_md5_lanes.proofs.Common.{◌≤◌, ◌*◌, ◌∙◌, ap, arith, length, length-append, length-drop, refl, take, take-take, at_hand, bytes_left, message_of}
-use Rattle.par2_md5_lanes.proofs.BlockLaws.{blocks_more}
+use Rattle.par2_md5_lanes.proofs.Names.{◌≤◌, ◌*◌, ◌∙◌, ap, arith, length, length-append, length-drop, refl, take, take-take, at_hand, bytes_left, message_of, blocks_more}
 use Rattle.par2_md5_lanes.proofs.tasks.LaneTask.take.Goals as goal
 
 pub returns-in-None-clause-progress : goal.returns-in-None-clause-progress

@@ -1,5 +1,4 @@
-use Rattle.par2_packets.proofs.Common.{length, sym, ap, ◌∙◌, IfscBody}
-use Rattle.par2_packets.proofs.Finding.{pairs_count}
+use Rattle.par2_packets.proofs.Names.{length, sym, ap, ◌∙◌, IfscBody, pairs_count}
 use Rattle.par2_packets.proofs.views.IfscView.count.Goals as goal
 
 pub returns : goal.returns

@@ -1,6 +1,4 @@
-use Rattle.std.proofs.Common.{rules, length, ◌<◌, ◌^◌}
-use Rattle.par2_packets.proofs.Common.{◌+◌, ◌*◌, ℕ, List, Some, sym, ap, ◌∙◌, arith, Pair, u32_at}
-use Rattle.par2_packets.proofs.Finding.{pair_fits, pair_of_view}
+use Rattle.par2_packets.proofs.Names.{rules, length, ◌<◌, ◌^◌, ◌+◌, ◌*◌, ℕ, List, Some, sym, ap, ◌∙◌, arith, Pair, u32_at, pair_fits, pair_of_view}
 use Rattle.par2_packets.proofs.views.IfscView.pair.Goals as goal
 
 pub overflow_mul-at : goal.overflow_mul-at

@@ -1,5 +1,4 @@
-use Rattle.par2_packets.proofs.Common.{length, sym, ap, ◌∙◌, MainBody}
-use Rattle.par2_packets.proofs.Finding.{ids_count}
+use Rattle.par2_packets.proofs.Names.{length, sym, ap, ◌∙◌, MainBody, ids_count}
 use Rattle.par2_packets.proofs.views.MainView.count.Goals as goal
 
 pub returns : goal.returns

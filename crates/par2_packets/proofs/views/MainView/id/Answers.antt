@@ -1,6 +1,4 @@
-use Rattle.std.proofs.Common.{rules, length, ◌<◌, ◌^◌}
-use Rattle.par2_packets.proofs.Common.{Some, sym, ap, ◌∙◌, arith}
-use Rattle.par2_packets.proofs.Finding.{id_fits, id_of_view}
+use Rattle.par2_packets.proofs.Names.{rules, length, ◌<◌, ◌^◌, Some, sym, ap, ◌∙◌, arith, id_fits, id_of_view}
 use Rattle.par2_packets.proofs.views.MainView.id.Goals as goal
 
 pub overflow_mul-k : goal.overflow_mul-k

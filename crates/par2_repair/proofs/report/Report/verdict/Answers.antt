@@ -1,6 +1,4 @@
-use Rattle.par2_repair.proofs.Common.{◌≡◌, ◌∙◌, Bool, List, ℕ, Ok, sym, ap, ap₂, cond, subst, ◌==◌, list_all, eq-eqb, ne_eqb, list_all-map, Folder, is_complete, report_in, verdict_of, IsVerdictIn, verdict_by_words, target_report_of, state_view}
-use Rattle.par2_repair.specs.ReportViews.{report_view}
-use Rattle.par2_spec.specs.declared.Verdict.{Verdict}
+use Rattle.par2_repair.proofs.Names.{◌≡◌, ◌∙◌, Bool, List, ℕ, Ok, sym, ap, ap₂, cond, subst, ◌==◌, list_all, eq-eqb, ne_eqb, list_all-map, Folder, is_complete, report_in, verdict_of, IsVerdictIn, verdict_by_words, target_report_of, state_view, report_view, Verdict}
 use Rattle.par2_spec.specs.Reports as reports
 use Rattle.par2_spec.specs.declared.Verdict.TheVariants as verdict
 use Rattle.par2_repair.proofs.report.Report.verdict.Goals as goal

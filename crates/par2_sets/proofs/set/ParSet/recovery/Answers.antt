@@ -1,6 +1,4 @@
-use Rattle.par2_sets.proofs.Common.{◌≡◌, ◌∙◌, ◌<◌, length, sym, ap, subst, AllByRecursion, IsStrictlyIncreasing, entries, IsSound, set_exponents, set_recovery}
-use Rattle.par2_spec.proofs.SearchLaws.{all_weaker}
-use Rattle.par2_sets.proofs.Reading.{kept_entries}
+use Rattle.par2_sets.proofs.AnswerNames.{◌≡◌, ◌∙◌, ◌<◌, length, sym, ap, subst, AllByRecursion, IsStrictlyIncreasing, entries, IsSound, set_exponents, set_recovery, all_weaker, kept_entries}
 use Rattle.par2_sets.proofs.set.ParSet.recovery.Goals as goal
 
 pub returns : goal.returns

@@ -1,5 +1,4 @@
-use Rattle.par2_slices.proofs.Common.{rules, ◌∙◌, ap, get_or, Roll, after_slide}
-use Rattle.par2_slices.proofs.Checksums.{one_slide}
+use Rattle.par2_slices.proofs.Names.{rules, ◌∙◌, ap, get_or, Roll, after_slide, one_slide}
 use Rattle.par2_slices.proofs.checksum.Rolling.slid.Goals as goal
 
 pub returns : goal.returns

@@ -1,5 +1,4 @@
-use Rattle.par2_slices.proofs.Common.{◌∙◌, ap, Roll, after_slide}
-use Rattle.par2_slices.proofs.Checksums.{slid}
+use Rattle.par2_slices.proofs.Names.{◌∙◌, ap, Roll, after_slide, slid}
 use Rattle.par2_slices.proofs.checksum.Rolling.slide.Goals as goal
 
 pub returns-clause-value : goal.returns-clause-value

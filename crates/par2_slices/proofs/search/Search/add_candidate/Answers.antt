@@ -1,5 +1,4 @@
-use Rattle.par2_slices.proofs.Common.{◌≡◌, ◌∙◌, ◌+◌, ℕ, List, true, false, ap₂, sym, subst, md5, padded, Candidate, IsScannedTo}
-use Rattle.par2_slices.proofs.Searching.{compared, pushed}
+use Rattle.par2_slices.proofs.Names.{◌≡◌, ◌∙◌, ◌+◌, ℕ, List, true, false, ap₂, sym, subst, md5, padded, Candidate, IsScannedTo, compared, pushed}
 use Rattle.par2_slices.proofs.search.Search.add_candidate.Goals as goal
 use Rattle.par2_slices.proofs.search.Search.add_candidate.Goals.{After-push}
 

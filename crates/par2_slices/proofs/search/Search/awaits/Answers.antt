@@ -1,6 +1,4 @@
-use Rattle.par2_slices.proofs.Common.{◌≡◌, List, subst, arith, false_from_ne_true, Option, count_by, Position, is_awaited}
-use Rattle.std.proofs.lemmas.Bool.{ltb-false, ltb-true}
-use Rattle.par2_slices.proofs.Searching.{all_answered, unawaited}
+use Rattle.par2_slices.proofs.Names.{◌≡◌, List, subst, arith, false_from_ne_true, Option, count_by, Position, is_awaited, ltb-false, ltb-true, all_answered, unawaited}
 use Rattle.par2_slices.proofs.search.Search.awaits.Goals as goal
 
 pub returns-then-contains : goal.returns-then-contains

@@ -1,7 +1,4 @@
-use Rattle.par2_slices.proofs.Common.{rules, arith, ℕ, ◌<◌, length, false_from_ne_true, HaveAnswers}
-use Rattle.std.proofs.Common.{tests}
-use Rattle.std.proofs.lemmas.Bool.{MatchBool-at_false, MatchBool-at_true}
-use Rattle.std.proofs.lemmas.Iterator.{YieldsList-from_slice, cases_from_any}
+use Rattle.par2_slices.proofs.Names.{rules, arith, ℕ, ◌<◌, length, false_from_ne_true, HaveAnswers, tests, MatchBool-at_false, MatchBool-at_true, YieldsList-from_slice, cases_from_any}
 use Rattle.par2_slices.proofs.search.Search.awaits_any.Goals as goal
 
 pub returns : goal.returns

@@ -1,6 +1,4 @@
-use Rattle.par2_slices.proofs.Common.{All, no_candidate, ◌≡◌, ◌∙◌, ◌+◌, ◌-◌, ℕ, ◌<◌, List, length, drop, ap, sym, subst, arith, Option, Pair, Candidate, Position, after_window, candidate_at, answer_at, pair_at, after_candidates, IsWindow}
-use Rattle.std.proofs.Common.{length-drop}
-use Rattle.par2_slices.proofs.Searching.{emptied, matches, none_settled, settled_from}
+use Rattle.par2_slices.proofs.Names.{All, no_candidate, ◌≡◌, ◌∙◌, ◌+◌, ◌-◌, ℕ, ◌<◌, List, length, drop, ap, sym, subst, arith, Option, Pair, Candidate, Position, after_window, candidate_at, answer_at, pair_at, after_candidates, IsWindow, length-drop, emptied, matches, none_settled, settled_from}
 use Rattle.par2_slices.proofs.search.Search.compare_batch.Goals as goal
 
 pub loop-k-preserved : goal.loop-k-preserved

@@ -1,6 +1,4 @@
-use Rattle.par2_slices.proofs.Common.{◌≡◌, ◌∙◌, ℕ, List, sym, subst, arith, Option, count_by, Position, PairPlace, is_awaited}
-use Rattle.par2_slices.specs.declared.search.Search.{Search}
-use Rattle.par2_slices.proofs.Searching.{no_more, unawaited}
+use Rattle.par2_slices.proofs.Names.{◌≡◌, ◌∙◌, ℕ, List, sym, subst, arith, Option, count_by, Position, PairPlace, is_awaited, Search, no_more, unawaited}
 use Rattle.par2_slices.proofs.search.Search.look.Goals as goal
 
 pub returns-else-pairs-gt0 : goal.returns-else-pairs-gt0

@@ -1,5 +1,4 @@
-use Rattle.par2_slices.proofs.Common.{◌≡◌, ℕ, rules, refl, List, length, subst, arith, Option, Pair, Position, IsTally}
-use Rattle.par2_slices.proofs.Searching.{IsFilled, filled_more, none_answered}
+use Rattle.par2_slices.proofs.Names.{◌≡◌, ℕ, rules, refl, List, length, subst, arith, Option, Pair, Position, IsTally, IsFilled, filled_more, none_answered}
 use Rattle.par2_slices.proofs.search.Search.new.Goals as goal
 
 pub returns-clause-tally : goal.returns-clause-tally

@@ -1,7 +1,4 @@
-use Rattle.par2_slices.proofs.Common.{◌≡◌, ◌∙◌, ◌+◌, ◌-◌, ◌≤◌, ℕ, List, get_or, refl, ap, subst, arith, get_or-drop, drop, length, rules, take, IsScannedTo}
-use Rattle.std.proofs.lemmas.List.{drop_min, take_rest}
-use Rattle.par2_slices.proofs.Searching.{none_left}
-use Rattle.par2_slices.proofs.Checksums.{slid_window}
+use Rattle.par2_slices.proofs.Names.{◌≡◌, ◌∙◌, ◌+◌, ◌-◌, ◌≤◌, ℕ, List, get_or, refl, ap, subst, arith, get_or-drop, drop, length, rules, take, IsScannedTo, drop_min, take_rest, none_left, slid_window}
 use Rattle.par2_slices.proofs.search.Search.one_by_one.Goals as goal
 
 pub loop-offset-preserved : goal.loop-offset-preserved

@@ -1,6 +1,4 @@
-use Rattle.par2_slices.proofs.Common.{◌≡◌, ◌∙◌, ◌+◌, ◌*◌, ◌<◌, ◌≤◌, ℕ, List, true, false, take, drop, length, ◌-◌, get_or, sym, ap, subst, crc_of, AreCandidateRows, HaveAnswers, Row}
-use Rattle.std.proofs.lemmas.List.{take_rest}
-use Rattle.par2_slices.proofs.Searching.{next_row, noted, skipped, answered, unmarked}
+use Rattle.par2_slices.proofs.Names.{◌≡◌, ◌∙◌, ◌+◌, ◌*◌, ◌<◌, ◌≤◌, ℕ, List, true, false, take, drop, length, ◌-◌, get_or, sym, ap, subst, crc_of, AreCandidateRows, HaveAnswers, Row, take_rest, next_row, noted, skipped, answered, unmarked}
 use Rattle.par2_slices.proofs.search.Search.rows_by.Goals as goal
 use Rattle.par2_slices.proofs.search.Search.rows_by.Goals.{then-may_contain_any+then-awaits_any+else-is_full, else-may_contain_any, else-may_contain_any-via-then-may_contain_any+else-awaits_any, else-may_contain_any-via-else-may_contain_any}
 

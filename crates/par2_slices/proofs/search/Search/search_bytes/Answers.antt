@@ -1,5 +1,4 @@
-use Rattle.par2_slices.proofs.Common.{◌≡◌, ◌+◌, ℕ, length, subst, arith, IsScannedTo}
-use Rattle.par2_slices.proofs.Searching.{none_left}
+use Rattle.par2_slices.proofs.Names.{◌≡◌, ◌+◌, ℕ, length, subst, arith, IsScannedTo, none_left}
 use Rattle.par2_slices.proofs.search.Search.search_bytes.Goals as goal
 
 pub returns-then-self-eq0-clause-at : goal.returns-then-self-eq0-clause-at

@@ -1,5 +1,4 @@
-use Rattle.par2_slices.proofs.Common.{◌≡◌, ◌∙◌, true, false, sym}
-use Rattle.par2_slices.proofs.Searching.{no_more, unmarked}
+use Rattle.par2_slices.proofs.Names.{◌≡◌, ◌∙◌, true, false, sym, no_more, unmarked}
 use Rattle.par2_slices.proofs.search.Search.test.Goals as goal
 
 pub returns-else-contains : goal.returns-else-contains

@@ -1,5 +1,4 @@
-use Rattle.par2_slices.proofs.Common.{◌≡◌, ◌+◌, ◌*◌, ◌<◌, ◌≤◌, ◌∙◌, ℕ, List, ap, length, subst, sym, arith, mul-le-mul_right, IsScannedTo, Row, row_at}
-use Rattle.par2_slices.proofs.Searching.{after-row, at-start, passed-to-end, passed-to-row}
+use Rattle.par2_slices.proofs.Names.{◌≡◌, ◌+◌, ◌*◌, ◌<◌, ◌≤◌, ◌∙◌, ℕ, List, ap, length, subst, sym, arith, mul-le-mul_right, IsScannedTo, Row, row_at, after-row, at-start, passed-to-end, passed-to-row}
 use Rattle.par2_slices.proofs.search.Search.test_stretch.Goals as goal
 
 pub loop-row-init : goal.loop-row-init

@@ -1,5 +1,4 @@
-use Rattle.par2_slices.proofs.Common.{◌+◌, ◌*◌, IsScannedTo}
-use Rattle.par2_slices.proofs.Searching.{reached}
+use Rattle.par2_slices.proofs.Names.{◌+◌, ◌*◌, IsScannedTo, reached}
 use Rattle.par2_slices.proofs.search.Search.test_stretch.Given as goal
 
 abbrev pub invariant-loop-row : goal.invariant-loop-row

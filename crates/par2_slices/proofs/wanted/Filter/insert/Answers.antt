@@ -1,5 +1,4 @@
-use Rattle.par2_slices.proofs.Common.{List, ap, ap₂, sym, subst, ◌≡◌, ◌∙◌, ◌*◌, ◌/◌, ◌%◌, ◌^◌, ℕ, set, bit_or, Groups, Includes}
-use Rattle.par2_slices.proofs.Searching.{included, kept_by_insert, only_by_insert, with_bit}
+use Rattle.par2_slices.proofs.Names.{List, ap, ap₂, sym, subst, ◌≡◌, ◌∙◌, ◌*◌, ◌/◌, ◌%◌, ◌^◌, ℕ, set, bit_or, Groups, Includes, included, kept_by_insert, only_by_insert, with_bit}
 use Rattle.par2_slices.proofs.wanted.Filter.insert.Goals as goal
 
 pub returns : goal.returns

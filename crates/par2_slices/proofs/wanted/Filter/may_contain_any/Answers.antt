@@ -1,5 +1,4 @@
-use Rattle.par2_slices.proofs.Common.{ℕ, get_or, Includes, eq-eqb}
-use Rattle.par2_slices.proofs.Searching.{one_of_four}
+use Rattle.par2_slices.proofs.Names.{ℕ, get_or, Includes, eq-eqb, one_of_four}
 use Rattle.par2_slices.proofs.wanted.Filter.may_contain_any.Goals as goal
 
 pub returns : goal.returns

@@ -1,5 +1,4 @@
-use Rattle.par2_slices.proofs.Common.{List, ap, ap₂, sym, subst, ◌≡◌, ◌∙◌, ◌*◌, ◌/◌, ◌%◌, ◌^◌, ℕ, set, bit_and, bit_not, w8, Groups, Includes}
-use Rattle.par2_slices.proofs.Searching.{gone, kept_by_remove, only_by_remove, without_bit}
+use Rattle.par2_slices.proofs.Names.{List, ap, ap₂, sym, subst, ◌≡◌, ◌∙◌, ◌*◌, ◌/◌, ◌%◌, ◌^◌, ℕ, set, bit_and, bit_not, w8, Groups, Includes, gone, kept_by_remove, only_by_remove, without_bit}
 use Rattle.par2_slices.proofs.wanted.Filter.remove.Goals as goal
 
 pub returns : goal.returns

@@ -1,6 +1,4 @@
-use Rattle.par2_slices.proofs.Common.{◌-◌, ◌/◌, ◌^◌, ℕ, List, take, drop, subst, sym, arith, Pair, HoldsGroup, PairPlace}
-use Rattle.par2_slices.proofs.Searching.{within}
-use Rattle.par2_slices.proofs.Places.{ends_of, group_of}
+use Rattle.par2_slices.proofs.Names.{◌-◌, ◌/◌, ◌^◌, ℕ, List, take, drop, subst, sym, arith, Pair, HoldsGroup, PairPlace, within, ends_of, group_of}
 use Rattle.par2_slices.proofs.wanted.Wanted.group.Goals as goal
 
 pub returns : goal.returns

@@ -1,5 +1,4 @@
-use Rattle.par2_solve.proofs.Common.{◌≡◌, filter, range_with_len}
-use Rattle.par2_solve.specs.BufferContents.{is_hole}
+use Rattle.par2_solve.proofs.Names.{◌≡◌, filter, range_with_len, is_hole}
 use Rattle.par2_solve.proofs.exponents.Front.holes.Given as goal
 
 abbrev pub invariant-loop-x : goal.invariant-loop-x
