@@ -3,8 +3,8 @@
 //! subspaces of the field (Cantor 1989; Gao and Mateer 2010).
 //!
 //! `par2_create` and `par2_solve` use it, and it uses `par2_gf16`. It knows buffers of words, exponents and points,
-//! but no files, packets or checksums. The theorems that it rests on are contracts of functions with empty bodies, in
-//! `recovery`.
+//! but no files, packets or checksums. The theorems that it rests on are contracts of functions with empty bodies, as
+//! `subspaces_vanish`.
 #![tactic(auto, using(crate::proofs::LocatorLaws::locating))]
 
 mod exponents;
