@@ -11,7 +11,7 @@ returns c =
     let same : length new ≡ sums.len = search rules in
     let blank = subst (λ n. AreBlank size n (lists_of sums.items)) (sym (length-lists_of c.args.factors.now)) c.in_ok-sums.ensures in
     let added = subst (λ n. Adds factors sources (lists_of sums.items) (lists_of new) 0 (size / 2) n) (sym (length-byte_lists c.args.sources.now))
-        (subst (λ (old : List (Vec ℕ Global)). Adds factors sources (lists_of old) (lists_of new) 0 (size / 2) (length c.args.sources.now)) c.as_mut_slice.ensures.value c.in_ok-add_matrix_product.ensures) in
+    (subst (λ (old : List (Vec ℕ Global)). Adds factors sources (lists_of old) (lists_of new) 0 (size / 2) (length c.args.sources.now)) c.as_mut_slice.ensures.value c.in_ok-add_matrix_product.ensures) in
     let side = λ (r w : ℕ). products (length sources) factors sources r w in
     let each : AddsToEach side (lists_of sums.items) (lists_of new) = record {
       count = added.count;

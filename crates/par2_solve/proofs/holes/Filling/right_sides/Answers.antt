@@ -15,7 +15,7 @@ returns c =
     let same : length new ≡ sums.len = search rules in
     let window_is = ap byte_lists c.deref.ensures.value ∙ c.in_ok-window.ensures in
     let added : AddsToEach side (lists_of sums.items) (lists_of new) =
-        subst (λ (xs : List (Vec ℕ Global)). AddsToEach side (lists_of xs) (lists_of new)) c.as_mut_slice.ensures.value
-        (subst (λ window. AddsToEach (λ r w. numerator filling.equations.sequence.items (words_at window w) r) (lists_of c.as_mut_slice.result.now) (lists_of new)) window_is c.in_ok-add_sums.ensures) in
+    subst (λ (xs : List (Vec ℕ Global)). AddsToEach side (lists_of xs) (lists_of new)) c.as_mut_slice.ensures.value
+    (subst (λ window. AddsToEach (λ r w. numerator filling.equations.sequence.items (words_at window w) r) (lists_of c.as_mut_slice.result.now) (lists_of new)) window_is c.in_ok-add_sums.ensures) in
     subst (λ (xs : List (Vec ℕ Global)). AreSums c.args.size.bytes filling.equations.count (λ w r. side r w) (lists_of xs)) (sym (with_items_is sums new same))
     (sums_of_blank c.args.size.bytes filling.equations.count side (lists_of sums.items) (lists_of new) c.in_ok-sums.ensures added)
