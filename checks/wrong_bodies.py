@@ -232,14 +232,26 @@ def in_lanes(rt, work, tell):
         yield from zip(work, pool.map(lambda it: told(rt, *it, tell), work))
 
 
+def faulty(lines):
+    """Returns the lines that tell of a fault, each under the title of its edit."""
+    title, found = "", []
+    for line in lines:
+        title = title if line.startswith(" ") else line
+        if re.search(r"NO GOAL OF ITS OWN$|^  not tried: | cannot be applied: ", line):
+            found += [title, line] if line != title else [line]
+    return list(dict.fromkeys(found))
+
+
 def tell_all(rt, work):
-    """Prints the result of each crate's edits, together, and returns whether nothing is wrong."""
-    functions, faults = 0, 0
+    """Prints the result of each crate's edits, together, what is wrong once more at the end, and returns whether nothing
+    is."""
+    functions, faults, wrong = 0, 0, []
     if not built(work):
         return False
     for _, found in in_lanes(rt, work, told_together):
         print(*found.lines, sep="\n", flush=True)
-        functions, faults = functions + found.functions, faults + found.faults
+        functions, faults, wrong = functions + found.functions, faults + found.faults, wrong + faulty(found.lines)
+    print(*wrong, sep="\n", end="\n" * bool(wrong))
     whole = f"wrong bodies: {functions} functions of {sum(len(it) for _, it in work)} edits"
     print(f"{whole}, {f'{faults} FAULTS' if faults else 'each refused by a goal of its own'}")
     return not faults
