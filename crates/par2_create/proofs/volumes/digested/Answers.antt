@@ -18,8 +18,8 @@ pub loop-volume-preserved : goal.loop-volume-preserved
 loop-volume-preserved c =
     let named = λ (v : Volume). let file : File = (v.name, volume_file_name c.args.parts.now v) in file in
     let item : List ℕ × Vec ℕ Global = (c.copied.result, with_items c.remove-bytes.result c.digest_volume.new.bytes) in
-    let size : length c.digest_volume.new.bytes ≡ c.remove-bytes.result.len = first_of (c.digest_volume.auto.bytes ∙ c.as_mut_slice.ensures.len, search rules, grind (arith, c.digest_volume.auto.bytes, c.as_mut_slice.ensures.len)) in
-    let last : as_file item ≡ named (get_or c.args.parts.now.volumes.now c.loop-volume.volume-index c.volume-item.result) = ap₂ (λ (a b : List ℕ). (a, b)) c.copied.ensures (with_items_is _ _ size ∙ c.in_ok-digest_volume.ensures) ∙ ap named c.volume-item.is in
+    let size : length c.digest_volume.new.bytes ≡ c.remove-bytes.result.len = c.digest_volume.auto.bytes ∙ c.as_mut_slice.ensures.len in
+    let last : as_file item ≡ named (get_or c.args.parts.now.volumes.now c.loop-volume.volume-index c.volume-item.result) = ap₂ (λ (a b : List ℕ). (a, b)) c.copied.ensures (with_items_is c.remove-bytes.result c.digest_volume.new.bytes size ∙ c.in_ok-digest_volume.ensures) ∙ ap named c.volume-item.is in
     record {
       done = ap (map as_file) c.in_ok-push.ensures.items ∙ map-append as_file c.loop-volume.files.items (item ∷ []) ∙ ap₂ (λ (xs : List File) (x : File). xs ++ x ∷ []) c.loop-volume.invariant.done last ∙ sym (map_more named c.args.parts.now.volumes.now c.loop-volume.volume-index c.volume-item.result c.loop-volume-test.true);
       left = (cut (goal.at.loop-volume-preserved c).After-as_mut_slice).1;
