@@ -16,8 +16,10 @@ pub returns : goal.returns
 returns c =
     let words = c.new-outputs.result.words in
     let pad = padded c.args.parts.now.slice in
-    let slices = buffers_of c.deref-2.result.now in let exponents : List ℕ = c.deref-3.result.now in
-    let old = lists_of c.args.out.now in let new = lists_of c.write_recovery_slices.new.buffers in
+    let slices = buffers_of c.deref-2.result.now in
+    let exponents : List ℕ = c.deref-3.result.now in
+    let old = lists_of c.args.out.now in
+    let new = lists_of c.write_recovery_slices.new.buffers in
     on_ok_weaker c.write_recovery_slices.result
     (λ written. volumes_written c.args.parts.now words c.args.parts.now.volumes.now slices exponents old new (omega (arith, c.args.parts.now.fours))
     (ap (λ (buffers : List (Bor (List ℕ))). map pad (buffers_of buffers)) c.deref-2.ensures.value ∙ c.in_ok-inputs.ensures)
