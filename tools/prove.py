@@ -5,9 +5,11 @@ usage: prove.py PROGRAM CPU TO     CPU is a level of x86-64, and TO the file tha
        prove.py --minutes [--check PAGE | --write PAGE]
            prints what a first build takes by tools/seconds.txt, compares it with the page or writes it there
 
-It runs the gate (`rt ci`) on a copy of the program and the libraries below it, without tests and must-fail edits, so each
-is proved from nothing. A line of progress says which crate was proved, how many are left, and about how long they take, by
-tools/seconds.txt and by how fast this run has been so far. RT_JOBS says how many checks run at a time.
+It runs the gate on a copy of the libraries below the program, without tests and must-fail edits, in the order of
+tools/chain_first.py: each is proved from nothing, or taken from what an earlier gate kept. Then it proves the program and
+compiles it by LLVM alone; the gate also compiles it by a second compiler. A line of progress says which crate was proved,
+how many are left, and about how long they take, by tools/seconds.txt and by how fast this run has been so far. RT_JOBS says
+how many processors there are to use. With PROVE_ANEW=1 nothing is taken of what is kept, which is how to measure.
 """
 import os
 import re
@@ -21,9 +23,9 @@ import time
 import page
 import rt_module
 
-DEFAULT = "x86-64-v2"
 # The most processes that share a proof, what sharing costs, and the part that can't be shared.
 SHARERS, SHARING, ALONE = 4, 1.25, 0.2
+ANEW = ["--anew"] if os.environ.get("PROVE_ANEW") == "1" else []
 TOP = os.path.join(os.path.dirname(os.path.realpath(__file__)), "..")
 PROVED = re.compile(r"rt: (\w+) proved$")
 
@@ -51,21 +53,23 @@ def wanted(program, below):
     return [*found, program]
 
 
-def copied(program, to):
-    """Makes a repository of the program and the libraries below it, and returns their names."""
-    lines, below = lines_of_crates()
-    if program not in lines:
-        sys.exit(f"crates.txt names no crate {program}")
-    names = wanted(program, below)
+def copy(names, to):
+    """Makes a repository of these crates, or adds them to the one that is there."""
+    lines = lines_of_crates()[0]
     for name in names:
         leave = lambda folder, found, at=f"{TOP}/crates/{name}": {"out", "must-fail"} & {*found} if folder == at else ()
         shutil.copytree(f"{TOP}/crates/{name}", f"{to}/crates/{name}", symlinks=True, ignore=leave)
     shutil.copy(f"{TOP}/HANDLES", to)
-    with open(f"{to}/crates.txt", "w") as file:
+    with open(f"{to}/crates.txt", "a") as file:
         file.write("".join(f"{lines[it]}\n" for it in names))
     # (the top of a repository)
-    os.mkdir(f"{to}/.git")
-    return names
+    os.makedirs(f"{to}/.git", exist_ok=True)
+
+
+def processors():
+    """Returns how many processors there are to use."""
+    number = os.environ.get("RT_JOBS", "")
+    return int(number) if number.isdigit() and int(number) else len(os.sched_getaffinity(0))
 
 
 def about(seconds):
@@ -117,7 +121,8 @@ def what_failed(log):
 def gate(folder, clock):
     """Runs the gate in the folder and prints each crate that it proves. Stops with what failed, if anything does."""
     said, how = [], {"stdout": subprocess.PIPE, "stderr": subprocess.STDOUT, "text": True, "errors": "replace"}
-    with subprocess.Popen(["rt", "ci"], cwd=folder, **how) as ran:
+    words = [sys.executable, f"{TOP}/tools/chain_first.py", *ANEW]
+    with subprocess.Popen(words, cwd=folder, **how) as ran:
         signal.signal(signal.SIGTERM, lambda *_: ran.terminate())
         for line in ran.stdout:
             said.append(line)
@@ -129,17 +134,18 @@ def gate(folder, clock):
 
 
 def main(program, cpu, to):
-    number = os.environ.get("RT_JOBS", "")
-    processors = int(number) if number.isdigit() and int(number) else len(os.sched_getaffinity(0))
+    if program not in lines_of_crates()[0]:
+        sys.exit(f"crates.txt names no crate {program}")
+    names = wanted(program, lines_of_crates()[1])
     with tempfile.TemporaryDirectory(prefix="par2-build-") as folder:
-        clock = Clock(copied(program, folder), processors)
-        few = f"{len(clock.seconds)} crates on {processors} processor{'s' * (processors > 1)}"
+        copy(names[:-1], folder)
+        clock = Clock(names, processors())
+        few = f"{len(names)} crates on {clock.processors} processor{'s' * (clock.processors > 1)}"
         print(f"{few}: {about(clock.planned)} on a slow machine.")
         print("The first crate's time says how long it takes on this one.", flush=True)
         gate(folder, clock)
-        made = f"{folder}/crates/{program}/out/{program}"
-        if cpu != DEFAULT:
-            made = rt_module.built_for(folder, program, cpu) or sys.exit(1)
+        copy([program], folder)
+        made = rt_module.built_for(folder, program, cpu, min(SHARERS, clock.processors)) or sys.exit(1)
         os.makedirs(os.path.dirname(os.path.abspath(to)), exist_ok=True)
         shutil.copy(made, f"{to}.new")
         os.replace(f"{to}.new", to)

@@ -17,27 +17,20 @@ def loaded():
     return module
 
 
-def beside_the_default(kind, target):
-    """Returns the kind of crate whose program is built by LLVM alone, under a name that ends in the target."""
-
-    class Beside(kind):
-        def compile_by(self, backend, words, to):
-            return super().compile_by(backend, words, f"{to}-{target}") if backend == "llvm" else 0
-
-    return Beside
-
-
-def built_for(root, program, target):
-    """Proves a program over the libraries that the gate has left in this repository, and builds it for the target as the
-    gate would. The command itself would prove the libraries again. Returns its path, or None where that failed."""
+def built_for(root, program, target, jobs=1):
+    """Proves a program over the libraries that the gate has left in this repository, and compiles it for the target by
+    LLVM, in one run. The command itself would prove the libraries again. Returns its path, or None where that failed."""
     rt = loaded()
     rt.rtlib.guarded()
-    crate = beside_the_default(rt.Crate, target)(f"{root}/crates/{program}", root, {})
-    rt.read_files(crate)
+    crate = rt.Crate(f"{root}/crates/{program}", root, {})
     crate.said = {**crate.said, "cpu": target}
+    os.makedirs(f"{crate.folder}/out", exist_ok=True)
+    to = f"out/{program}-{target}"
+    words = crate.words(["--jobs", str(jobs)], keeps=False)
+    words += ["--toolchain", f"{rt.KIT}/toolchain", "--backend", "llvm", "-o", f"{to}.o"]
     with tempfile.TemporaryFile("a+", errors="replace") as crate.out:
-        failed = crate.ci(["--jobs", "1"], False)
+        failed = crate.prove(["build", *words]) or crate.link(f"{to}.o", to)
         crate.out.seek(0)
         if failed:
             print(crate.out.read(), end="")
-    return None if failed else f"{crate.folder}/out/{program}-{target}"
+    return None if failed else f"{crate.folder}/{to}"
