@@ -99,27 +99,25 @@ fn named(alloc: Global, name: &str, matches: &ArgMatches<'_>) -> Result<Command,
     ensures ok { IfOk result (λ c. meaning (name.now, rows_in matches.now) ≡ Some (command_of c)) }
     ensures err { IfErr result (λ e. e ≡ Memory ⊎ meaning (name.now, rows_in matches.now) ≡ None) }
 {
+    // A subcommand without names has an empty base and no further names.
+    let base = base_of(alloc, matches)?;
+    let extras = files_of(alloc, matches)?;
     match name {
         "create" => Ok(Command::Act(Action::Create(CreateArgs {
             slice: slice_size_of(matches),
             count: count_of(matches, "count"),
             first: count_of(matches, "first"),
-            base: base_of(alloc, matches)?,
-            inputs: files_of(alloc, matches)?,
+            base,
+            inputs: extras,
             overwrite: has_flag(matches, "overwrite"),
         }))),
-        "verify" => Ok(Command::Verify {
-            base: base_of(alloc, matches)?,
-            extras: files_of(alloc, matches)?,
-        }),
+        "verify" => Ok(Command::Verify { base, extras }),
         "repair" => Ok(Command::Act(Action::Repair {
-            base: base_of(alloc, matches)?,
-            extras: files_of(alloc, matches)?,
+            base,
+            extras,
             purge: has_flag(matches, "purge"),
         })),
-        "purge" => Ok(Command::Act(Action::Purge {
-            base: base_of(alloc, matches)?,
-        })),
+        "purge" => Ok(Command::Act(Action::Purge { base })),
         "undo" => Ok(Command::Act(Action::Undo)),
         "redo" => Ok(Command::Act(Action::Redo)),
         _ => Err(WordsFault::Arguments),
