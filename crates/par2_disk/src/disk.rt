@@ -74,8 +74,7 @@ pub fn read_folder<S: FolderStore>(alloc: Global, store: &mut S) -> Result<Folde
     folder.reserve(names.len())?;
     for name in &names {
         let bytes = store.read(alloc, name)?;
-        let mut change = Change::Write(name.copied(), bytes.into());
-        let _taken = folder.apply(&mut change);
+        let _taken = folder.apply(&mut Change::Write(name.copied(), bytes.into()));
     }
     Ok(folder)
 }
@@ -250,7 +249,6 @@ impl From<StoreFault> for ReadFault {
     }
 }
 
-#[tactic(auto, unfolding(par2_spec::specs::Changes::is_applicable, par2_spec::specs::Changes::effect))]
 impl<D: Directory> DiskStore<D> {
     // Called first by each writing call: holds the directory alone, and checks once that the journal has the stamp of
     // the one that was read, if it was read. If it hasn't, another run has written the folder meanwhile.
@@ -325,47 +323,6 @@ impl<D: Directory> DiskStore<D> {
         self.directory.sync()
     }
 
-    // Writes a file under a name that nothing has. If another file gets the name meanwhile, it isn't overwritten.
-    fn write_new(&mut self, name: &Name, bytes: &[u8]) -> Result<(), StoreFault>
-        requires { (D.state self.old.directory).alone }
-        ensures { Changes D.state self.old self.new (Write name.now bytes.now) result }
-    {
-        self.find_nothing(name)?;
-        self.make_temporary(Location::File(name), bytes)?;
-        self.directory.name_temporary(Location::File(name))?;
-        self.directory.sync()
-    }
-
-    // Replaces the bytes of a file, while the directory is held alone. If no file has the name, the call can't be done.
-    fn replace_file(&mut self, name: &Name, bytes: &[u8]) -> Result<(), StoreFault>
-        requires { (D.state self.old.directory).alone }
-        ensures { Changes D.state self.old self.new (Replace name.now bytes.now) result }
-    {
-        self.find_file(name)?;
-        self.write_at(Location::File(name), bytes)
-    }
-
-    // Renames a file to a name that nothing has, while the directory is held alone, and syncs the directory.
-    fn rename_file(&mut self, from: &Name, to: &Name) -> Result<(), StoreFault>
-        requires { (D.state self.old.directory).alone }
-        ensures { Changes D.state self.old self.new (Rename from.now to.now) result }
-    {
-        self.find_file(from)?;
-        self.find_nothing(to)?;
-        self.directory.rename(from, to)?;
-        self.directory.sync()
-    }
-
-    // Removes a file, while the directory is held alone, and syncs the directory.
-    fn remove_file(&mut self, name: &Name) -> Result<(), StoreFault>
-        requires { (D.state self.old.directory).alone }
-        ensures { Changes D.state self.old self.new (Remove name.now) result }
-    {
-        self.find_file(name)?;
-        self.directory.remove(name)?;
-        self.directory.sync()
-    }
-
     // Holds the directory with other readers, and reads a file.
     fn read_file(&mut self, alloc: Global, name: &Name) -> Result<Vec<u8>, ReadFault>
         ensures file { ReadsFile (over D.state) self.old self.new name.now result }
@@ -428,6 +385,51 @@ impl<D: Directory> DiskStore<D> {
             self.failures.rise();
         }
         answer
+    }
+}
+
+// The changes, each made while the directory is held alone. `CanMake`: one can be made, and nothing bars it.
+#[tactic(auto, unfolding(par2_spec::specs::Changes::is_applicable, par2_spec::specs::Changes::effect))]
+impl<D: Directory> DiskStore<D> {
+    // Writes a file under a name that nothing has. If another file gets the name meanwhile, it isn't overwritten.
+    fn write_new(&mut self, name: &Name, bytes: &[u8]) -> Result<(), StoreFault>
+        requires { (D.state self.old.directory).alone }
+        ensures { Changes D.state self.old self.new (Write name.now bytes.now) result }
+    {
+        self.find_nothing(name)?;
+        self.make_temporary(Location::File(name), bytes)?;
+        self.directory.name_temporary(Location::File(name))?;
+        self.directory.sync()
+    }
+
+    // Replaces the bytes of a file, while the directory is held alone. If no file has the name, the call can't be done.
+    fn replace_file(&mut self, name: &Name, bytes: &[u8]) -> Result<(), StoreFault>
+        requires { (D.state self.old.directory).alone }
+        ensures { Changes D.state self.old self.new (Replace name.now bytes.now) result }
+    {
+        self.find_file(name)?;
+        self.write_at(Location::File(name), bytes)
+    }
+
+    // Renames a file to a name that nothing has, while the directory is held alone, and syncs the directory.
+    fn rename_file(&mut self, from: &Name, to: &Name) -> Result<(), StoreFault>
+        requires { (D.state self.old.directory).alone }
+        ensures { Changes D.state self.old self.new (Rename from.now to.now) result }
+    {
+        self.find_file(from)?;
+        self.find_nothing(to)?;
+        self.directory.rename(from, to)?;
+        self.directory.sync()
+    }
+
+    // Removes a file, while the directory is held alone, and syncs the directory.
+    fn remove_file(&mut self, name: &Name) -> Result<(), StoreFault>
+        requires { (D.state self.old.directory).alone }
+        ensures { Changes D.state self.old self.new (Remove name.now) result }
+    {
+        self.find_file(name)?;
+        self.directory.remove(name)?;
+        self.directory.sync()
     }
 }
 
