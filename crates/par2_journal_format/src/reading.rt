@@ -15,7 +15,7 @@ use crate::{HalfwayPart, Journal};
 use md5::{Digest, Md5};
 use par2_files::{Bytes, Change, Changes, Name};
 use par2_spec::{JournalFault, Version};
-use std::alloc::{AllocFailed, Global};
+use std::alloc::Global;
 
 // A part from the front, and the bytes after it.
 type Read<'a, T> = Result<(T, &'a [u8]), JournalFault>;
@@ -132,8 +132,9 @@ fn read_entries(alloc: Global, count: u64, bytes: &[u8]) -> Read<'_, Vec<Changes
     let mut rest = bytes;
     for _ in 0..count {
         let (entry, behind) = read_entry(alloc, rest)?;
-        let pushed = entries.push(entry);
-        pushed.map_err(|_: AllocFailed<Changes>| JournalFault::Memory)?;
+        if entries.push(entry).is_err() {
+            return Err(JournalFault::Memory);
+        }
         rest = behind;
     }
     Ok((entries, rest))
@@ -147,8 +148,7 @@ fn read_digests(alloc: Global, count: u64, bytes: &[u8]) -> Read<'_, Vec<[u8; 16
     let mut rest = bytes;
     for _ in 0..count {
         let (digest, behind) = read_digest(rest)?;
-        let pushed = digests.push(digest);
-        pushed.map_err(|_: AllocFailed<[u8; 16]>| JournalFault::Memory)?;
+        digests.extend_from_slice(&[digest])?;
         rest = behind;
     }
     Ok((digests, rest))
@@ -156,7 +156,7 @@ fn read_digests(alloc: Global, count: u64, bytes: &[u8]) -> Read<'_, Vec<[u8; 16
 
 // The halfway part: a 0 if no command is halfway; otherwise a 1, a count that isn't 0, this many fingerprints, and as
 // many changes that take the command back.
-#[tactic(auto, unfolding(crate::specs::Journals::halfway_at, crate::specs::Journals::many_at))]
+#[tactic(auto, unfolding(crate::specs::Journals::halfway_at))]
 fn read_halfway(alloc: Global, bytes: &[u8]) -> Result<(Option<HalfwayPart>, &[u8]), JournalFault>
     ensures { Gives (λ x. (halfway_of x.0, x.1.now)) result (halfway_at bytes.now) }
 {
@@ -164,11 +164,11 @@ fn read_halfway(alloc: Global, bytes: &[u8]) -> Result<(Option<HalfwayPart>, &[u
         [0, rest @ ..] => Ok((None, rest)),
         [1, rest @ ..] => {
             let (count, rest) = read_number(rest)?;
+            let (fingerprints, rest) = read_digests(alloc, count, rest)?;
+            let (back, rest) = read_changes(alloc, count, rest)?;
             if count == 0 {
                 return Err(JournalFault::JournalInvalid);
             }
-            let (fingerprints, rest) = read_digests(alloc, count, rest)?;
-            let (back, rest) = read_changes(alloc, count, rest)?;
             Ok((Some(HalfwayPart { fingerprints, back }), rest))
         }
         _ => Err(JournalFault::JournalInvalid),

@@ -45,34 +45,24 @@ fn append_bytes(out: &mut Vec<u8>, bytes: &Bytes) -> Result<()>
     out.extend_from_slice(content)
 }
 
-// Appends what each change begins with: its kind in one byte (1 write, 2 replace, 3 rename, 4 remove), and its name.
-fn append_kind_and_name(out: &mut Vec<u8>, kind: u8, name: &Name) -> Result<()>
-    ensures bytes { Appends (kind ∷ name_bytes name.now) out.old out.new result }
-    ensures name { OnOk result (IsTrue (is_name name.now)) }
-{
-    out.push(kind)?;
-    append_name(out, name)
-}
-
-// Appends one change: its kind, its name, and the bytes or the new name. `IsChange`: a journal can hold it.
+// Appends one change: its kind in one byte (1 write, 2 replace, 3 rename, 4 remove), its name, and the bytes or the new
+// name. `IsChange`: a journal can hold it.
 fn append_change(out: &mut Vec<u8>, change: &Change) -> Result<()>
     ensures bytes { Appends (change_bytes (change_of change.now)) out.old out.new result }
     ensures change { OnOk result (IsChange (change_of change.now)) }
 {
+    let (kind, name) = match change {
+        Change::Write(name, _) => (1, name),
+        Change::Replace(name, _) => (2, name),
+        Change::Rename(from, _) => (3, from),
+        Change::Remove(name) => (4, name),
+    };
+    out.push(kind)?;
+    append_name(out, name)?;
     match change {
-        Change::Write(name, bytes) => {
-            append_kind_and_name(out, 1, name)?;
-            append_bytes(out, bytes)
-        }
-        Change::Replace(name, bytes) => {
-            append_kind_and_name(out, 2, name)?;
-            append_bytes(out, bytes)
-        }
-        Change::Rename(from, to) => {
-            append_kind_and_name(out, 3, from)?;
-            append_name(out, to)
-        }
-        Change::Remove(name) => append_kind_and_name(out, 4, name),
+        Change::Write(_, bytes) | Change::Replace(_, bytes) => append_bytes(out, bytes),
+        Change::Rename(_, to) => append_name(out, to),
+        Change::Remove(_) => Ok(()),
     }
 }
 

@@ -19,7 +19,10 @@ fn listed<'a>(base: &'a str, further: &'a [String], place: usize) -> &'a str
     if place == 0 {
         return base;
     }
-    further.get(place - 1).map_or("", |name| name.as_str())
+    match further.get(place - 1) {
+        Some(name) => name.as_str(),
+        None => "",
+    }
 }
 
 // The name at a place of a command, which a fault refers to: 0 is the base, k the k-th further name. Empty if there is
