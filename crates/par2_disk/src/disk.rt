@@ -327,9 +327,8 @@ impl<D: Directory> DiskStore<D> {
     fn read_file(&mut self, alloc: Global, name: &Name) -> Result<Vec<u8>, ReadFault>
         ensures file { ReadsFile (over D.state) self.old self.new name.now result }
         ensures reason { FailsToReadFile D.state self.old self.new name.now result }
-        ensures seen { self.new.seen ≡ self.old.seen }
-        ensures entered { self.new.is_entered ≡ self.old.is_entered }
-        ensures failures { self.new.failures ≡ self.old.failures }
+        ensures rest { let impossible = self.new.impossible in
+            self.new ≡ record self.old { directory = self.new.directory; impossible = impossible } }
     {
         self.directory.share()?;
         self.find_file(name)?;
