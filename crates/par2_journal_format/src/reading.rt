@@ -156,7 +156,7 @@ fn read_digests(alloc: Global, count: u64, bytes: &[u8]) -> Read<'_, Vec<[u8; 16
 
 // The halfway part: a 0 if no command is halfway; otherwise a 1, a count that isn't 0, this many fingerprints, and as
 // many changes that take the command back.
-#[tactic(auto, unfolding(crate::specs::Journals::halfway_at))]
+#[tactic(auto, unfolding(crate::specs::Journals::halfway_at, crate::specs::Journals::many_at))]
 fn read_halfway(alloc: Global, bytes: &[u8]) -> Result<(Option<HalfwayPart>, &[u8]), JournalFault>
     ensures { Gives (λ x. (halfway_of x.0, x.1.now)) result (halfway_at bytes.now) }
 {
@@ -164,11 +164,11 @@ fn read_halfway(alloc: Global, bytes: &[u8]) -> Result<(Option<HalfwayPart>, &[u
         [0, rest @ ..] => Ok((None, rest)),
         [1, rest @ ..] => {
             let (count, rest) = read_number(rest)?;
-            let (fingerprints, rest) = read_digests(alloc, count, rest)?;
-            let (back, rest) = read_changes(alloc, count, rest)?;
             if count == 0 {
                 return Err(JournalFault::JournalInvalid);
             }
+            let (fingerprints, rest) = read_digests(alloc, count, rest)?;
+            let (back, rest) = read_changes(alloc, count, rest)?;
             Ok((Some(HalfwayPart { fingerprints, back }), rest))
         }
         _ => Err(JournalFault::JournalInvalid),
