@@ -35,8 +35,9 @@ fn read_block(bytes: &[u8], len: usize) -> Result<(&[u8], &[u8]), JournalFault>
 fn read_number(bytes: &[u8]) -> Result<(u64, &[u8]), JournalFault>
     ensures { Gives (λ x. (x.0, x.1.now)) result (number_at bytes.now) }
 {
-    let chunk = bytes.split_first_chunk();
-    let (number, rest) = chunk.ok_or(JournalFault::JournalInvalid)?;
+    let Some((number, rest)) = bytes.split_first_chunk() else {
+        return Err(JournalFault::JournalInvalid);
+    };
     Ok((u64::from_le_bytes(*number), rest))
 }
 
@@ -45,8 +46,9 @@ fn read_number(bytes: &[u8]) -> Result<(u64, &[u8]), JournalFault>
 fn read_digest(bytes: &[u8]) -> Result<([u8; 16], &[u8]), JournalFault>
     ensures { Gives (λ x. (x.0, x.1.now)) result (block_at 16 bytes.now) }
 {
-    let chunk = bytes.split_first_chunk();
-    let (digest, rest) = chunk.ok_or(JournalFault::JournalInvalid)?;
+    let Some((digest, rest)) = bytes.split_first_chunk() else {
+        return Err(JournalFault::JournalInvalid);
+    };
     Ok((*digest, rest))
 }
 
@@ -59,8 +61,10 @@ fn read_name(bytes: &[u8]) -> Result<(Name, &[u8]), JournalFault>
         return Err(JournalFault::JournalInvalid);
     };
     let (encoded, rest) = read_block(rest, *len as usize)?;
-    let name = Name::from_bytes(encoded).ok_or(JournalFault::JournalInvalid)?;
-    Ok((name, rest))
+    match Name::from_bytes(encoded) {
+        Some(name) => Ok((name, rest)),
+        None => Err(JournalFault::JournalInvalid),
+    }
 }
 
 // The bytes of a file, copied: their number in eight bytes, then the bytes.

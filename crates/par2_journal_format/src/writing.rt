@@ -105,7 +105,7 @@ fn append_halfway(out: &mut Vec<u8>, halfway: Option<&HalfwayPartView<'_>>) -> R
     ensures halfway { OnOk result (IfSome (part_from halfway.entry) IsHalfwayPart) }
 {
     let Some(halfway) = halfway else {
-        return Ok(out.push(0)?);
+        return out.extend_from_slice(&[0]);
     };
     out.push(1)?;
     append_number(out, halfway.back.len() as u64)?;
