@@ -241,10 +241,13 @@ impl<'r, R: Files<File = File> + AllocGlobal> Directory for CurrentDirectory<'r,
     }
 
     fn write_temporary(&mut self, location: Location<'_>, bytes: &[u8]) -> Result<(), StoreFault> {
-        let mode = self.modes.mode_at(location);
-        let written = written_to(self.made_anew(mode), bytes);
-        let answer = written.map(|file| self.written = Some(file));
-        self.counted(answer)
+        match written_to(self.made_anew(self.modes.mode_at(location)), bytes) {
+            Ok(file) => {
+                self.written = Some(file);
+                Ok(())
+            }
+            Err(error) => self.counted(Err(error)),
+        }
     }
 
     fn sync_temporary(&mut self) -> Result<(), StoreFault> {
