@@ -6,7 +6,7 @@ pub use Rattle.std.proofs.lemmas.List.Sums.{fold-append, AllPass-from_list_all}
 pub use Rattle.std.proofs.lemmas.Result.{IfErr-weaker, IfOk-at_ok, IfOk-weaker, err_from_is_err_and}
 pub use Rattle.std.specs.Borrow.{Bor}
 pub use Rattle.std.specs.List.{list_all}
-pub use Rattle.std.specs.Prelude.{Box, MatchOption, find, fold, is_some, option_and_then, option_map, unwrap_or}
+pub use Rattle.std.specs.Prelude.{Box, find, fold, is_some, option_and_then, option_map, unwrap_or}
 pub use Rattle.std.specs.Str.{bytes_eq}
 pub use Rattle.std.specs.Str.Parse.{AllDigits, ExplainsUnsignedError, HasUnsignedDigitsIfOk, ParsesUnsigned}
 unfoldable pub use Rattle.clap.proofs.OnLiterals.{clap_on_literals}

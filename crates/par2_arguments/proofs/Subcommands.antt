@@ -1,5 +1,5 @@
 -- A command after an argument or a subcommand was added.
-use Rattle.par2_arguments.proofs.Common.{arith, App, Rule, AddsArg, AddsSubcommand, with_rule, with_subcommand, Command, IsApp, ◌≡◌, ℕ, Bool, true, false, nat_lt, refl, List, [], ◌∷◌, map, Option, Some, None, Result, lt-ltb, ltb-true, codes, unwrap_or, option_map, MatchOption, list_all, Bor, bytes_eq, AllDigits, ParsesUnsigned, ReadsOne, Text, first_value, matched_of, one_text, raw_values, rows_of, flag_of, number, number_of, value_of, values_of, ◌∙◌, true≢false, ap, sym, subst, is_some, Box, find, HasMatchesOf, Row, Shape, app_of, built, fault_of, is_simple, is_simple_and_free, subcommand_name_of, subcommand_of, subcommand_rows, subcommand_rows_of, argument_words, entered, label_of, names_of, rows_at, meaning, clap_on_literals, par2_app, shape_of, start_app, digit_value, and_parts, box_value, none-some, recursion_from_All, AllPass-from_list_all, rule_of, Arg, Found, first_value-rows, one_text-rows, raw_values-rows, answers_to, stop_after, ArgMatches, SubCommand, out-ArgMatches, out-SubCommand, found_one}
+use Rattle.par2_arguments.proofs.Common.{arith, App, Rule, AddsArg, AddsSubcommand, with_rule, with_subcommand, Command, IsApp, ◌≡◌, ℕ, Bool, true, false, nat_lt, refl, List, [], ◌∷◌, map, Option, Some, None, Result, lt-ltb, ltb-true, codes, unwrap_or, option_map, list_all, Bor, bytes_eq, AllDigits, ParsesUnsigned, ReadsOne, Text, first_value, matched_of, one_text, raw_values, rows_of, flag_of, number, number_of, value_of, values_of, ◌∙◌, true≢false, ap, sym, subst, is_some, Box, find, HasMatchesOf, Row, Shape, app_of, built, fault_of, is_simple, is_simple_and_free, subcommand_name_of, subcommand_of, subcommand_rows, subcommand_rows_of, argument_words, entered, label_of, names_of, rows_at, meaning, clap_on_literals, par2_app, shape_of, start_app, digit_value, and_parts, box_value, none-some, recursion_from_All, AllPass-from_list_all, rule_of, Arg, Found, first_value-rows, one_text-rows, raw_values-rows, answers_to, stop_after, ArgMatches, SubCommand, out-ArgMatches, out-SubCommand, found_one}
 
 -- the shape of a row of the table
 abbrev pub shape_for : Bor Text × Bor (List Rattle.par2_arguments.specs.declared.definition.Argument.Argument) → Shape
@@ -22,9 +22,9 @@ pub buffers_read : (f : Found) (id : Text) (o : Option (Bor (List (Bor Text)))) 
     → map (λ v. v.now) (unwrap_or o d).now ≡ values_of id (rows_of f)
 buffers_read f id o d got none = grind (arith, raw_values-rows)
 
-pub flag_read : (f : Found) (id : Text) (o : Option (Bor Text)) (is : Bool) → MatchOption o (is ≡ false) (λ s. is ≡ bytes_eq s.now (codes "true")) → option_map (λ s. s.now) o ≡ first_value f id
-    → is ≡ flag_of id (rows_of f)
-flag_read f id o is on got = grind (arith, first_value-rows)
+pub flag_read : (f : Found) (id : Text) (o : Option (Bor Text)) (d : Bor Text) → option_map (λ s. s.now) o ≡ first_value f id
+    → d.now ≡ [] → bytes_eq (unwrap_or o d).now (codes "true") ≡ flag_of id (rows_of f)
+flag_read f id o d got none = grind (arith, first_value-rows)
 
 -- ---- numbers
 

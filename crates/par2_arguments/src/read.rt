@@ -75,7 +75,7 @@ fn files_of(alloc: Global, matches: &ArgMatches<'_>) -> Result<Vec<String>>
 fn has_flag(matches: &ArgMatches<'_>, id: &str) -> bool
     ensures { result ≡ flag_of id.now (rows_in matches.now) }
 {
-    matches.get_str(id).is_some_and(|bytes| bytes == "true")
+    matches.get_str(id).unwrap_or("") == "true"
 }
 
 // The slice size of a create, `-sN`, in bytes. clap requires it, so the 0 isn't used.
