@@ -63,9 +63,8 @@ fn files_of(alloc: Global, matches: &ArgMatches<'_>) -> Result<Vec<String>>
     ensures { IfOk result (λ v. map string_bytes v.items
         ≡ values_of (codes "files") (rows_in matches.now)) }
 {
-    let buffers = matches.get_strs("files").unwrap_or(&[]);
     let mut files = Vec::new(alloc);
-    for bytes in buffers {
+    for bytes in matches.get_strs("files").unwrap_or(&[]) {
         files.push(String::from_str(alloc, bytes)?)?;
     }
     Ok(files)
