@@ -152,7 +152,9 @@ fn read_digests(alloc: Global, count: u64, bytes: &[u8]) -> Read<'_, Vec<[u8; 16
     let mut rest = bytes;
     for _ in 0..count {
         let (digest, behind) = read_digest(rest)?;
-        digests.extend_from_slice(&[digest])?;
+        if digests.push(digest).is_err() {
+            return Err(JournalFault::Memory);
+        }
         rest = behind;
     }
     Ok((digests, rest))

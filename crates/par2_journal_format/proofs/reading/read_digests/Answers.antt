@@ -1,4 +1,4 @@
-use Rattle.par2_journal_format.proofs.Names.{err_from_is_err_and, block_at, goes_on, stops, ends}
+use Rattle.par2_journal_format.proofs.Names.{◌≡◌, ◌++◌, ◌∷◌, [], arith, err_from_is_err_and, block_at, goes_on, stops, ends}
 use Rattle.par2_journal_format.proofs.reading.read_digests.Goals as goal
 
 pub returns-in_err-digest : goal.returns-in_err-digest
@@ -8,7 +8,8 @@ returns-in_err-digest c =
 
 pub loop-preserved : goal.loop-preserved
 loop-preserved c =
-    rw c.in_ok-extend_from_slice.ensures.items (goes_on (block_at 16) c.args.count c.args.bytes.now c.loop.digests.items c.loop.counter c.loop.rest.now c.in_ok-digest.digest c.in_ok-digest.behind.now c.loop-test.true c.in_ok-digest.ensures c.loop.invariant)
+    let items : c.push.new.self.items ≡ c.loop.digests.items ++ c.in_ok-digest.digest ∷ [] = grind (arith, c.push.ensures.items, c.is_err.ensures, c.if-is_err.false) in
+    rw items (goes_on (block_at 16) c.args.count c.args.bytes.now c.loop.digests.items c.loop.counter c.loop.rest.now c.in_ok-digest.digest c.in_ok-digest.behind.now c.loop-test.true c.in_ok-digest.ensures c.loop.invariant)
 
 pub returns : goal.returns
 returns c = ends (block_at 16) c.args.count c.args.bytes.now c.loop.digests.items c.loop.counter c.loop.rest.now c.loop-test.false c.loop.invariant
