@@ -148,6 +148,7 @@ fn records_of_inputs(
 /// The changes of a create, which write its outputs in order, or why it is refused. It returns `Memory` only if an
 /// allocation fails. The checkpoints in `from` save hashing the files before them again. A session calls it;
 /// `par2_plan` has a `plan_create` without checkpoints.
+#[tactic(auto, unfolding(par2_spec::specs::Refusals::early_refusal))]
 pub fn plan_create(
     alloc: Global,
     folder: &Folder,

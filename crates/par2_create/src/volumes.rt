@@ -91,11 +91,11 @@ fn write_slices(alloc: Global, parts: &Parts, out: &mut [Vec<u8>]) -> Result<()>
     requires { lists_of out.old ≡ map (blank_volume parts.now) parts.now.volumes.now }
     ensures { OnOk result (lists_of out.new ≡ map (with_slices parts.now) parts.now.volumes.now) }
 {
-    let gf = Gf::new(alloc)?;
     let inputs = input_slices(alloc, parts.files, parts.slice, parts.folder)?;
     let exponents = exponents_of(alloc, parts)?;
     let places = places(alloc, parts, out)?;
     let outputs = Places::new(&places, parts.slice as usize / 2);
+    let gf = Gf::new(alloc)?;
     write_recovery_slices(alloc, &gf, &inputs, &exponents, out, &outputs)
 }
 

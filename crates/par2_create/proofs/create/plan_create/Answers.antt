@@ -22,12 +22,30 @@ named c =
       ap (existing c.args.folder.now.files a.overwrite) (sym names) ∙ sym c.existing.ensures,
     )
 
+pub returns-in_err-base-clause-refused : goal.returns-in_err-base-clause-refused
+returns-in_err-base-clause-refused c =
+    let folder = c.args.folder.now.files in
+    let a = create_args_of c.args.args.now in
+    let fault : Fault = c.in_err-base.field-0.0 in
+    passed.refused_by (λ y. head_fault a ≡ Some y) (λ y. refusal folder (Create a) ≡ Some y) c.from_residual.result fault
+    (err_from_is_err_and c.from_residual.result c.from_residual.ensures.1) (inr c.in_err-base.ensures.refused)
+    (λ head. refused_early folder (Create a) fault (early_by folder a (Some fault) (bad_name a.inputs) head refl))
+
 pub returns-in-Some-clause-refused : goal.returns-in-Some-clause-refused
 returns-in-Some-clause-refused c =
     inr (refused_early c.args.folder.now.files (Create (create_args_of c.args.args.now)) c.in-Some.fault (early_word (goal.at.returns-in-Some-clause-refused c).In-Some))
 
 pub records_of_inputs-requires-clause-slice : goal.records_of_inputs-requires-clause-slice
 records_of_inputs-requires-clause-slice c = (head_passed _ c.in_ok-base.ensures.accepted).positive
+
+pub returns-in_err-records-clause-refused : goal.returns-in_err-records-clause-refused
+returns-in_err-records-clause-refused c =
+    let folder = c.args.folder.now.files in
+    let a = create_args_of c.args.args.now in
+    let fault : Fault = c.in_err-records.field-0.0 in
+    passed.refused_by (λ y. inputs_fault folder a ≡ Some y) (λ y. refusal folder (Create a) ≡ Some y) c.from_residual-in_err-records.result fault
+    (err_from_is_err_and c.from_residual-in_err-records.result c.from_residual-in_err-records.ensures.1) c.in_err-records.ensures.refused
+    (λ cause. refused_by folder a None (Some fault) _ _ c.in_ok-base.ensures.accepted cause refl refl)
 
 pub volumes-requires-clause-base : goal.volumes-requires-clause-base
 volumes-requires-clause-base c = subst (λ base. is_par_name base ≡ true) (sym c.in_ok-base.ensures.name) (head_passed _ c.in_ok-base.ensures.accepted).par_name
