@@ -57,7 +57,6 @@ pub(crate) fn coefficients(alloc: Global, gf: &Gf, numbers: &[u32], e: u32) -> R
 }
 
 /// Whether these are increasing numbers of input slices, as those of `Lost` are.
-#[tactic(auto, using(crate::proofs::RunInverses::slices_from))]
 pub(crate) fn are_slices(numbers: &[u32]) -> bool
     ensures { IsTrue result → AreSlices numbers.now }
 {

@@ -125,15 +125,13 @@ pub(crate) fn invert(
         let kept = Vec::from_slice(alloc, &exponents.numbers[..missing])?;
         return Ok(Inversion { kept, inverse });
     }
-    let (chosen, system) = eliminate(alloc, gf, lost.numbers, exponents, missing)?;
+    let (kept, system) = eliminate(alloc, gf, lost.numbers, exponents, missing)?;
     let rank = system.rank();
-    match system.into_solution() {
-        Ok(buffers) => Ok(Inversion {
-            kept: chosen,
-            inverse: Inverse::Rows(rows_of(alloc, &buffers)?),
-        }),
-        Err(_) => Err(RebuildFault::NotRepairable { missing, rank }),
-    }
+    let Ok(buffers) = system.into_solution() else {
+        return Err(RebuildFault::NotRepairable { missing, rank });
+    };
+    let inverse = Inverse::Rows(rows_of(alloc, &buffers)?);
+    Ok(Inversion { kept, inverse })
 }
 
 /// The inverse of the matrix of the kept exponents: its rows, or a form by which it is applied without computing them.

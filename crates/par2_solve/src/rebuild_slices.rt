@@ -100,7 +100,7 @@ fn solve(
     survivors: &Survivors,
     slices: &[&[u8]],
     found: &Inversion,
-) -> Result<Vec<Vec<u8>>>
+) -> Result<Vec<Vec<u8>>, RebuildFault>
     // The recovery slices determine the lost ones, and `found` has the kept exponents and their
     // inverse.
     requires survivors { CanRebuild survivors.now }
@@ -108,9 +108,10 @@ fn solve(
     requires enough { AreEnough survivors.now }
     requires found { IsInversion
         (lost_among survivors.now) (exponents_of survivors.now.recovery.items) found.now }
-    // It returns the lost slices, one buffer for each.
+    // It returns the lost slices, one buffer for each, unless memory runs out.
     ensures rebuilt { IfOk result (λ buffers. Rebuild survivors.now buffers.items) }
     ensures count { IfOk result (λ it. length it.items ≡ length (lost_among survivors.now)) }
+    ensures memory { IfErr result (λ fault. fault ≡ RebuildFault.Memory) }
 {
     let exponents = Exponents {
         numbers: &found.kept,
@@ -156,7 +157,7 @@ pub fn rebuild(alloc: Global, gf: &Gf, survivors: &Survivors) -> Result<Vec<Vec<
     let lost = Lost { numbers: &lost };
     let exponents = Exponents { numbers: &numbers };
     let found = invert(alloc, gf, &lost, &exponents)?;
-    Ok(solve(alloc, gf, survivors, &slices, &found)?)
+    solve(alloc, gf, survivors, &slices, &found)
 }
 
 /// The same as `rebuild`, with tables of the field that it makes itself.

@@ -1,4 +1,5 @@
-use Rattle.par2_solve.proofs.Names.{all_columns_added, ap, arith, byte_lists, coefficients, length, length-byte_lists, length-map, lists_of, many_windows, next_columns, products, products_are, range_with_len, rows_long, still_within, sums_are, sym, ◌∙◌}
+use Rattle.par2_solve.proofs.Names.{Global, List, Vec, length-lists_of, all_columns_added, ap, arith, byte_lists, coefficients, length, length-byte_lists, length-map, lists_of, many_windows, next_columns, products, products_are, range_with_len, rows_long, still_within, sums_are, sym, ℕ, ◌∙◌}
+use Rattle.std.proofs.lemmas.Grind.{common_steps}
 use Rattle.par2_solve.proofs.additions.add_as_sums.Goals as goal
 
 pub products_of-requires : goal.products_of-requires
@@ -26,3 +27,11 @@ returns c =
 
 pub add_sums-requires-clause-room : goal.add_sums-requires-clause-room
 add_sums-requires-clause-room c = still_within c.args.targets.now.outputs.places.now c.args.targets.now.outputs.words c.args.targets.now.outputs.words _ (lists_of c.args.buffers.now) (lists_of c.loop-from.buffers) c.loop-from.invariant.added c.requires.room
+
+pub add_sums-requires-clause-count : goal.add_sums-requires-clause-count
+add_sums-requires-clause-count c =
+    ap (λ (xs : List (Vec ℕ Global)). length xs) c.deref-in-loop-from-2.ensures.value ∙ sym (length-lists_of c.in_ok-sums.sums.items) ∙ c.in_ok-sums.ensures.count ∙ ap (λ (xs : List (Vec ℕ Global)). length (lists_of xs)) c.deref.ensures.value
+    ∙ ap length c.in_ok-rows.ensures ∙ length-map c.args.targets.now.exponents.now (coefficients (range_with_len 0 (length c.args.transform.now.slices.now))) ∙ c.args.targets.now.count
+
+pub loop-from-init : goal.loop-from-init
+loop-from-init c = grind (arith, common_steps)

@@ -18,11 +18,11 @@ returns-in-Some-clause-enough c = λ _.
     let reported = first (goal.at.returns-in-Some-clause-enough c).In-Some in
     more_determine c.args.lost.now.numbers.now c.args.exponents.now.numbers.now (length c.args.lost.now.numbers.now) reported.enough
 
-pub returns-in_ok-rows_of-in-Ok-clause-found : goal.returns-in_ok-rows_of-in-Ok-clause-found
-returns-in_ok-rows_of-in-Ok-clause-found c =
+pub returns-clause-found : goal.returns-clause-found
+returns-clause-found c =
     let buffers = c.in-Ok.buffers.items in
     record {
-      kept = c.in_ok-chosen.ensures.are_kept;
-      inverse = are_inverse c.args.lost.now.numbers.now c.args.exponents.now.numbers.now _ _ (lists_of buffers) (lists_of c.in_ok-rows_of-in-Ok.field-0.items) c.in_ok-chosen.ensures c.in-Ok.ensures.ok (c.in-Ok.ensures.when.0 refl)
-          (rw (c.deref.ensures.value, ← length-lists_of buffers) at c.in_ok-rows_of-in-Ok.ensures);
+      kept = c.in_ok-kept-2.ensures.are_kept;
+      inverse = are_inverse c.args.lost.now.numbers.now c.args.exponents.now.numbers.now _ _ (lists_of buffers) (lists_of c.in_ok-rows_of.field-0.items) c.in_ok-kept-2.ensures c.in-Ok.ensures.ok (c.in-Ok.ensures.when.0 refl)
+          (rw (c.deref.ensures.value, ← length-lists_of buffers) at c.in_ok-rows_of.ensures);
     }

@@ -1,4 +1,5 @@
 use Rattle.par2_solve.proofs.Names.{AreByteLists, Bor, IfErr, IsStrictlyIncreasing, IsTrueFault, List, Ok, YieldsList-from_map, YieldsList-from_map_by, YieldsList-from_slice, another, ap, byte_lists, bytes_or_none, exponents_of, items_from_collect, known_among, length-lost_from, lost, lost-lt, lost_are, lost_from, lost_rise, map, map-map, map_from_collect, recovered_of, refl, rules, subst, sym, two, ℕ, ◌∙◌, ◌≡◌}
+use Rattle.par2_solve.proofs.Common.{IfErr-weaker}
 use Rattle.par2_solve.proofs.rebuild_slices.rebuild.Goals.{After-deref-2, After-deref-6, After-deref-7}
 use Rattle.par2_solve.proofs.rebuild_slices.rebuild.Goals as goal
 
@@ -63,3 +64,12 @@ returns-in_err-found-clause-two c some =
     let known_bytes = subst AreByteLists (ap byte_lists c.deref-2.ensures.value ∙ slices_are (goal.at.returns-in_err-found-clause-two c).After-deref-2) c.buffers_fit.ensures in
     let recovery_bytes = subst AreByteLists (ap bytes_given c.deref-3.ensures.value) c.fit_recovery.ensures in
     two survivors c.requires known_bytes recovery_bytes c.from_residual-in_err-found.result c.two_lists_agree.ensures some (returns-in_err-found-clause-refused c)
+
+pub returns-clause-refused : goal.returns-clause-refused
+returns-clause-refused c = IfErr-weaker c.solve.result _ _ (λ fault is. rw is tt) c.solve.ensures.memory
+
+pub returns-clause-another : goal.returns-clause-another
+returns-clause-another c some = IfErr-weaker c.solve.result _ _ (λ fault is. rw is tt) c.solve.ensures.memory
+
+pub returns-clause-two : goal.returns-clause-two
+returns-clause-two c some = IfErr-weaker c.solve.result _ _ (λ fault is. rw is tt) c.solve.ensures.memory

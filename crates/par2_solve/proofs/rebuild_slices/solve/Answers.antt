@@ -59,4 +59,4 @@ returns c =
     (subst AreByteLists c.requires.slices c.in_ok-buffers.ensures.slices)
     (subst AreByteLists (recovery_are at.After-deref-3) c.in_ok-buffers.ensures.recovery)
     ((rw (recovery_are at.After-deref-3, c.requires.slices, exponents_are at.After-deref) at c.in_ok-buffers.ensures.solved) (missing survivors) inverts) (rw c.deref-4.ensures.value at c.fit_lists.ensures) in
-    record { rebuilt = made.0; count = sym (length-lists_of c.in_ok-buffers.buffers.items) ∙ made.1 }
+    record { rebuilt = made.0; memory = tt; count = sym (length-lists_of c.in_ok-buffers.buffers.items) ∙ made.1 }
