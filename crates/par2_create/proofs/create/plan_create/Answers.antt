@@ -24,12 +24,8 @@ named c =
 
 pub returns-in_err-base-clause-refused : goal.returns-in_err-base-clause-refused
 returns-in_err-base-clause-refused c =
-    let folder = c.args.folder.now.files in
-    let a = create_args_of c.args.args.now in
-    let fault : Fault = c.in_err-base.field-0.0 in
-    passed.refused_by (λ y. head_fault a ≡ Some y) (λ y. refusal folder (Create a) ≡ Some y) c.from_residual.result fault
-    (err_from_is_err_and c.from_residual.result c.from_residual.ensures.1) (inr c.in_err-base.ensures.refused)
-    (λ head. refused_early folder (Create a) fault (early_by folder a (Some fault) (bad_name a.inputs) head refl))
+    passed.refused_by (λ y. head_fault (create_args_of c.args.args.now) ≡ Some y) (λ y. refusal c.args.folder.now.files (Create (create_args_of c.args.args.now)) ≡ Some y) c.from_residual.result c.in_err-base.field-0.0 (err_from_is_err_and c.from_residual.result c.from_residual.ensures.1) (inr c.in_err-base.ensures.refused)
+    (λ head. refused_early c.args.folder.now.files (Create (create_args_of c.args.args.now)) c.in_err-base.field-0.0 (early_by c.args.folder.now.files (create_args_of c.args.args.now) (Some c.in_err-base.field-0.0) (bad_name (create_args_of c.args.args.now).inputs) head refl))
 
 pub returns-in-Some-clause-refused : goal.returns-in-Some-clause-refused
 returns-in-Some-clause-refused c =
@@ -40,12 +36,8 @@ records_of_inputs-requires-clause-slice c = (head_passed _ c.in_ok-base.ensures.
 
 pub returns-in_err-records-clause-refused : goal.returns-in_err-records-clause-refused
 returns-in_err-records-clause-refused c =
-    let folder = c.args.folder.now.files in
-    let a = create_args_of c.args.args.now in
-    let fault : Fault = c.in_err-records.field-0.0 in
-    passed.refused_by (λ y. inputs_fault folder a ≡ Some y) (λ y. refusal folder (Create a) ≡ Some y) c.from_residual-in_err-records.result fault
-    (err_from_is_err_and c.from_residual-in_err-records.result c.from_residual-in_err-records.ensures.1) c.in_err-records.ensures.refused
-    (λ cause. refused_by folder a None (Some fault) _ _ c.in_ok-base.ensures.accepted cause refl refl)
+    passed.refused_by (λ y. inputs_fault c.args.folder.now.files (create_args_of c.args.args.now) ≡ Some y) (λ y. refusal c.args.folder.now.files (Create (create_args_of c.args.args.now)) ≡ Some y) c.from_residual-in_err-records.result c.in_err-records.field-0.0 (err_from_is_err_and c.from_residual-in_err-records.result c.from_residual-in_err-records.ensures.1)
+    c.in_err-records.ensures.refused (λ cause. refused_by c.args.folder.now.files (create_args_of c.args.args.now) None (Some c.in_err-records.field-0.0) _ _ c.in_ok-base.ensures.accepted cause refl refl)
 
 pub volumes-requires-clause-base : goal.volumes-requires-clause-base
 volumes-requires-clause-base c = subst (λ base. is_par_name base ≡ true) (sym c.in_ok-base.ensures.name) (head_passed _ c.in_ok-base.ensures.accepted).par_name
@@ -55,14 +47,11 @@ volumes-requires-clause-exponents c = (head_passed _ c.in_ok-base.ensures.accept
 
 pub returns-in_err-volumes-clause-refused : goal.returns-in_err-volumes-clause-refused
 returns-in_err-volumes-clause-refused c =
-    let folder = c.args.folder.now.files in
     let a = create_args_of c.args.args.now in
-    let fault : Fault = c.in_err-volumes.field-0.0 in
     let head = c.in_ok-base.ensures.accepted in
-    passed.refused_by (λ y. long_name (volume_names (volumes_of c.in_ok-base.base a.first a.count)) ≡ Some y) (λ y. refusal folder (Create a) ≡ Some y) c.from_residual-in_err-volumes.result fault
-    (err_from_is_err_and c.from_residual-in_err-volumes.result c.from_residual-in_err-volumes.ensures.1) c.in_err-volumes.ensures.refused
-    (λ cause. refused_by folder a None None (Some fault) _ head c.in_ok-records.ensures.passed
-    (long_without_base a head ∙ subst (λ base. long_name (volume_names (volumes_of base a.first a.count)) ≡ Some fault) c.in_ok-base.ensures.name cause) refl)
+    passed.refused_by (λ y. long_name (volume_names (volumes_of c.in_ok-base.base a.first a.count)) ≡ Some y) (λ y. refusal c.args.folder.now.files (Create a) ≡ Some y) c.from_residual-in_err-volumes.result c.in_err-volumes.field-0.0 (err_from_is_err_and c.from_residual-in_err-volumes.result c.from_residual-in_err-volumes.ensures.1)
+    c.in_err-volumes.ensures.refused (λ cause. refused_by c.args.folder.now.files a None None (Some c.in_err-volumes.field-0.0) _ head c.in_ok-records.ensures.passed
+    (long_without_base a head ∙ subst (λ base. long_name (volume_names (volumes_of base a.first a.count)) ≡ Some c.in_err-volumes.field-0.0) c.in_ok-base.ensures.name cause) refl)
 
 pub returns-in-Some-existing-clause-refused : goal.returns-in-Some-existing-clause-refused
 returns-in-Some-existing-clause-refused c =

@@ -17,11 +17,8 @@ loop-from-preserved c =
 
 pub returns : goal.returns
 returns c =
-    let n = length c.args.transform.now.slices.now in
-    let slices = byte_lists c.args.transform.now.slices.now in
-    let rows = lists_of c.in_ok-rows.rows.items in
-    let was = lists_of c.args.buffers.now in
-    let new = lists_of c.loop-from.buffers in
+    let n = length c.args.transform.now.slices.now in let slices = byte_lists c.args.transform.now.slices.now in let rows = lists_of c.in_ok-rows.rows.items in
+    let was = lists_of c.args.buffers.now in let new = lists_of c.loop-from.buffers in
     products_are n c.args.targets.now.outputs.words c.args.targets.now.exponents.now rows slices was new c.args.targets.now.outputs.places.now c.in_ok-rows.ensures (sym (length-byte_lists c.args.transform.now.slices.now)) c.args.targets.now.count
     (all_columns_added c.args.targets.now.outputs.places.now c.args.targets.now.outputs.words c.loop-from.from (products n rows slices) was new (omega arith) c.loop-from.invariant.added)
 

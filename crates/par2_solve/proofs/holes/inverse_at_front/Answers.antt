@@ -3,9 +3,7 @@ use Rattle.par2_solve.proofs.holes.inverse_at_front.Goals as goal
 
 pub returns-then-span-first : goal.returns-then-span-first
 returns-then-span-first c =
-    let ks = c.args.lost.now.numbers.now in
-    let es = c.in-Some.first.numbers.now in
-    let f = get_or es 0 0 in
+    let ks = c.args.lost.now.numbers.now in let es = c.in-Some.first.numbers.now in let f = get_or es 0 0 in
     let run = is_run es c.in-Some.first.rise c.in-Some.first.some (omega (arith, c.if-span-first.true, c.span.ensures)) in
     let same : range_with_len f (length ks) ≡ take (length ks) c.args.exponents.now.numbers.now = ap (range_with_len f) (sym c.in-Some.ensures.count) ∙ sym run ∙ c.in-Some.ensures.first in
     record {
@@ -21,9 +19,7 @@ new-requires c =
 
 pub returns : goal.returns
 returns c =
-    let ks = c.args.lost.now.numbers.now in
-    let es = c.in-Some.first.numbers.now in
-    let n = c.count_equations-count.result in
+    let ks = c.args.lost.now.numbers.now in let es = c.in-Some.first.numbers.now in let n = c.count_equations-count.result in
     let fit : n + length es ≡ span es + 1 = c.count_equations-count.ensures in
     let inverse : AreHoleInverse (locator ks) (holes es) n (lists_of c.in-Some-2.inverse.items) = rw (c.in-Some-2.is, c.deref.ensures.value, c.in_ok-p.ensures, c.deref-2.ensures.value, c.in_ok-places.ensures) at c.in_ok-inverse.ensures in
     let filling : Filling = record { equations = c.in_ok-new.field-0; holes = c.in-Some-2.inverse; origins = c.in_ok-origins.field-0; locator = c.in_ok-run_locator.field-0 } in

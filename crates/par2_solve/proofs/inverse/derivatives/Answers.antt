@@ -12,22 +12,14 @@ step_each-requires c = ap (λ (xs : List ℕ). length xs) (factors_are c) ∙ le
 
 pub loop-k-init : goal.loop-k-init
 loop-k-init c =
-    let p = c.args.p.now in
-    let left = length-drop (2 * (length p / 2)) p in
-    let zeros = c.in_ok-values.ensures.items_if_clones_equal (λ y h. search rules) in
+    let p = c.args.p.now in let left = length-drop (2 * (length p / 2)) p in let zeros = c.in_ok-values.ensures.items_if_clones_equal (λ y h. search rules) in
     (search rules, λ j low. ap (λ xs. get_or xs j 0) zeros ∙ get_or-replicate (length c.args.points.now) j 0 0 low ∙ sym (derivative_end (get_or c.args.points.now j 0) (drop (2 * (length p / 2)) p) (omega (arith, left))))
 
 pub loop-k-preserved : goal.loop-k-preserved
 loop-k-preserved c =
-    let p = c.args.p.now in
-    let points = c.args.points.now in
-    let k = c.loop-k.k - 1 in
-    let values = c.step_each.new.values in
-    let some : 0 < c.loop-k.k = c.loop-k-test.true in
-    let next : c.loop-k.k ≡ k + 1 = omega (arith, some) in
-    let most : c.loop-k.k ≤ length p / 2 = c.loop-k.auto.k in
-    let size : length values ≡ c.loop-k.values.len = search rules in
-    let before = c.as_mut_slice.ensures.value in
+    let p = c.args.p.now in let points = c.args.points.now in let k = c.loop-k.k - 1 in let values = c.step_each.new.values in
+    let some : 0 < c.loop-k.k = c.loop-k-test.true in let next : c.loop-k.k ≡ k + 1 = omega (arith, some) in let most : c.loop-k.k ≤ length p / 2 = c.loop-k.auto.k in
+    let size : length values ≡ c.loop-k.values.len = search rules in let before = c.as_mut_slice.ensures.value in
     let count : length values ≡ length points = c.step_each.ensures.count ∙ ap (λ (xs : List ℕ). length xs) before ∙ c.loop-k.invariant.0 in
     subst (λ (xs : List ℕ). (length xs ≡ length points) × ((j : ℕ) → j < length points → let z = get_or points j 0 in get_or xs j 0 ≡ value (quotient z (drop (2 * k) p)) z)) (sym (with_items_is c.loop-k.values values size)) (
       count,

@@ -9,13 +9,8 @@ loop-i-preserved-then-rank-lost c =
 
 pub loop-i-preserved : goal.loop-i-preserved
 loop-i-preserved c =
-    let lost = c.args.lost.now in
-    let all = c.args.exponents.now.numbers.now in
-    let rise = c.args.exponents.now.rise in
-    let i = c.loop-i.i in
-    let system = c.loop-i.system in
-    let invariant = c.loop-i.invariant in
-    let row_is = c.deref.ensures.value ∙ c.in_ok-row.ensures in
+    let lost = c.args.lost.now in let all = c.args.exponents.now.numbers.now in let rise = c.args.exponents.now.rise in let i = c.loop-i.i in
+    let system = c.loop-i.system in let invariant = c.loop-i.invariant in let row_is = c.deref.ensures.value ∙ c.in_ok-row.ensures in
     elim c.match-branch-5.branch [
       | goal.in-Kept+in_ok-push-in-Kept w ↦
           let is : c.offer.result ≡ Ok Kept = c.in_ok-offer.was ∙ ap Ok w.in-Kept.is in
@@ -32,8 +27,7 @@ loop-i-preserved c =
 
 pub returns : goal.returns
 returns c =
-    let all = c.args.exponents.now.numbers.now in
-    let at_end : c.loop-i.i ≡ length all = omega (arith, c.loop-i-test.false, c.loop-i.auto.i-end) in
+    let all = c.args.exponents.now.numbers.now in let at_end : c.loop-i.i ≡ length all = omega (arith, c.loop-i-test.false, c.loop-i.auto.i-end) in
     eliminated c.args.lost.now c.args.units all c.loop-i.kept.items c.loop-i.i c.loop-i.system at_end c.loop-i.invariant
 
 pub offer-requires : goal.offer-requires

@@ -39,8 +39,7 @@ solved-requires-clause-inverse c = (missing c.args.survivors.now, subst (λ es. 
 
 pub solved-requires-clause-size : goal.solved-requires-clause-size
 solved-requires-clause-size c = λ j h.
-    let at = (goal.at.solved-requires-clause-size c).After-deref-3 in
-    let recs = chosen c.args.survivors.now in
+    let at = (goal.at.solved-requires-clause-size c).After-deref-3 in let recs = chosen c.args.survivors.now in
     let low : j < length recs = omega (arith, h, ap (λ (xs : List (List ℕ)). length xs) (recovery_are at), length-map recs (λ (r : ℕ × List ℕ). r.1)) in
     let sizes = all-filter (λ r. length r.1 ≡ c.args.survivors.now.slice) _ (given c.args.survivors.now) c.requires.survivors.recovery in
     let size = ap (λ xs. length (list_at xs j)) (recovery_are at) ∙ ap length (get_or-map (λ (r : ℕ × List ℕ). r.1) recs j (0, []) [] low) ∙ all_get (λ (r : ℕ × List ℕ). length r.1 ≡ c.args.survivors.now.slice) recs j (0, []) low sizes in
@@ -48,10 +47,7 @@ solved-requires-clause-size c = λ j h.
 
 pub returns : goal.returns
 returns c =
-    let at = goal.at.returns c in
-    let survivors = c.args.survivors.now in
-    let found = c.args.found.now in
-    let kept = chosen survivors in
+    let at = goal.at.returns c in let survivors = c.args.survivors.now in let found = c.args.found.now in let kept = chosen survivors in
     let exponents = kept_exponents (missing survivors) (given survivors) in
     let inverts = subst (λ es. Inverts (missing survivors) es found.inverse) (c.requires.found.kept ∙ sym exponents) c.requires.found.inverse in
     let made = answer survivors c.requires.survivors (missing survivors) kept (lists_of c.in_ok-buffers.buffers.items)

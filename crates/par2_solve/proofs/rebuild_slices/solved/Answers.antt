@@ -36,15 +36,9 @@ products-requires c =
 
 pub loop-from-preserved : goal.loop-from-preserved
 loop-from-preserved c =
-    let at = (goal.at.loop-from-preserved c).After-deref-in-loop-from in
-    let from = c.loop-from.from in
-    let n = c.min-bytes.result in
-    let exponents = c.args.kept.now.exponents.now in
-    let slices = byte_lists c.args.transform.now.slices.now in
-    let recovery = byte_lists c.args.kept.now.slices.now in
-    let old = lists_of c.loop-from.buffers.items in
-    let blocks = lists_of c.in_ok-lost.lost.items in
-    let new = c.extend.new.buffers in
+    let at = (goal.at.loop-from-preserved c).After-deref-in-loop-from in let from = c.loop-from.from in let n = c.min-bytes.result in
+    let exponents = c.args.kept.now.exponents.now in let slices = byte_lists c.args.transform.now.slices.now in let recovery = byte_lists c.args.kept.now.slices.now in
+    let old = lists_of c.loop-from.buffers.items in let blocks = lists_of c.in_ok-lost.lost.items in let new = c.extend.new.buffers in
     let size : length new ≡ c.loop-from.buffers.len = search rules in
     let extended = rw (c.as_mut_slice.ensures.value, c.deref-in-loop-from-4.ensures.value, ← length-lists_of c.in_ok-lost.lost.items) at c.in_ok-extend.ensures in
     let slices_are = ap byte_lists c.deref.ensures.value ∙ c.in_ok-known.ensures in
@@ -70,8 +64,7 @@ loop-from-init c = record {
 
 pub extend-requires : goal.extend-requires
 extend-requires c =
-    let lost = c.requires.inverse.0 in
-    let inverts = c.requires.inverse.1 in
+    let lost = c.requires.inverse.0 in let inverts = c.requires.inverse.1 in
     ap (λ (xs : List (Vec ℕ Global)). length xs) c.deref-in-loop-from-4.ensures.value ∙ sym (length-lists_of c.in_ok-lost.lost.items) ∙ (c.in_ok-lost.ensures c.args.kept.now.exponents.now lost inverts).count
     ∙ sym (c.loop-from.invariant.solved lost inverts).count ∙ length-lists_of c.loop-from.buffers.items ∙ ap (λ (xs : List (Vec ℕ Global)). length xs) (sym c.as_mut_slice.ensures.value)
 

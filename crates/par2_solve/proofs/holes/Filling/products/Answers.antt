@@ -1,4 +1,5 @@
 use Rattle.par2_solve.proofs.Names.{AreByteLists, AreProducts, Bor, Filled, Global, List, Vec, ap, arith, byte_lists, falling_long, filled_solve, from_origin, length, length-byte_lists, length-map, length-take-le, lists_of, locator, map, rows_solve, same_count, span, subst, sym, take, ℕ, ◌+◌, ◌∙◌, ◌≡◌}
+use Rattle.std.proofs.lemmas.Grind.{common_steps}
 use Rattle.par2_solve.proofs.holes.Filling.products.Goals.{After-deref-5}
 use Rattle.par2_solve.proofs.holes.Filling.products.Goals as goal
 
@@ -9,11 +10,7 @@ run_is c =
 
 long : (c : After-deref-5) → length c.deref-5.result.now ≡ length c.args.sources.now
 long c =
-    let n = length (byte_lists c.args.sources.now) in
-    let is = c.requires.1.1 in
-    let origins = is.origins.count in
-    let fit = is.fit in
-    let square = c.requires.2 in
+    let n = length (byte_lists c.args.sources.now) in let is = c.requires.1.1 in let origins = is.origins.count in let fit = is.fit in let square = c.requires.2 in
     let same = length-byte_lists c.args.sources.now in
     sym (length-byte_lists c.deref-5.result.now) ∙ ap (λ (xs : List (List ℕ)). length xs) (run_is c) ∙ length-map (take n c.args.self.now.origins.items) (from_origin (byte_lists c.args.sources.now) (lists_of c.in_ok-holes.holes.items))
     ∙ length-take-le n c.args.self.now.origins.items (omega (arith, origins, fit, square, same)) ∙ same
@@ -28,14 +25,9 @@ located_products-requires c = let is = c.requires.1.1 in is.run.wide ∙ sym is.
 
 pub returns : goal.returns
 returns c = λ es lost is.
-    let at = (goal.at.returns c).After-deref-5 in
-    let filling = c.args.self.now in
-    let sources = byte_lists c.args.sources.now in
-    let right = lists_of c.in_ok-right.right.items in
-    let holes = lists_of c.in_ok-holes.holes.items in
-    let run = byte_lists c.deref-5.result.now in
-    let sums = lists_of c.in_ok-sums.sums.items in
-    let same = same_count lost es (length c.args.sources.now) (Filled filling) is c.requires in
+    let at = (goal.at.returns c).After-deref-5 in let filling = c.args.self.now in let sources = byte_lists c.args.sources.now in
+    let right = lists_of c.in_ok-right.right.items in let holes = lists_of c.in_ok-holes.holes.items in let run = byte_lists c.deref-5.result.now in
+    let sums = lists_of c.in_ok-sums.sums.items in let same = same_count lost es (length c.args.sources.now) (Filled filling) is c.requires in
     let sources_count = length-byte_lists c.args.sources.now ∙ sym same in
     let borrowed : byte_lists c.deref-3.result.now ≡ right = ap byte_lists c.deref-3.ensures.value ∙ c.in_ok-borrowed.ensures ∙ ap (λ (xs : List (Vec ℕ Global)). lists_of xs) c.deref-2.ensures.value in
     let source_bytes = c.buffers_fit.ensures in
@@ -46,3 +38,6 @@ returns c = λ es lost is.
     let holes_are : AreProducts c.args.size.bytes (lists_of filling.holes.items) right holes = rw (c.deref.ensures.value, borrowed) at c.in_ok-holes.ensures in
     filled_solve lost es filling c.args.size.bytes sources right holes run sums is sources_count source_bytes right_bytes hole_bytes sum_bytes c.in_ok-right.ensures holes_are (run_is at)
     (rows_solve c.args.size.bytes lost _ _ run sums is.run.is_inverse run_bytes (length-byte_lists c.deref-5.result.now ∙ long at ∙ sym same) c.in_ok-sums.ensures)
+
+pub products_of-requires : goal.products_of-requires
+products_of-requires c = grind (arith, common_steps)
