@@ -1,5 +1,4 @@
-use Rattle.par2_solve.proofs.Names.{AreByteLists, AreProducts, Bor, Filled, Global, List, Vec, ap, arith, byte_lists, falling_long, filled_solve, from_origin, length, length-byte_lists, length-map, length-take-le, lists_of, locator, map, rows_solve, same_count, span, subst, sym, take, ℕ, ◌+◌, ◌∙◌, ◌≡◌}
-use Rattle.std.proofs.lemmas.Grind.{common_steps}
+use Rattle.par2_solve.proofs.Names.{AreByteLists, AreProducts, Bor, Filled, Global, List, Vec, ap, arith, byte_lists, falling_long, filled_solve, from_origin, length, length-byte_lists, length-lists_of, length-map, length-take-le, lists_of, locator, map, rows_solve, same_count, span, subst, sym, take, ℕ, ◌+◌, ◌∙◌, ◌≡◌}
 use Rattle.par2_solve.proofs.holes.Filling.products.Goals.{After-deref-5}
 use Rattle.par2_solve.proofs.holes.Filling.products.Goals as goal
 
@@ -40,4 +39,8 @@ returns c = λ es lost is.
     (rows_solve c.args.size.bytes lost _ _ run sums is.run.is_inverse run_bytes (length-byte_lists c.deref-5.result.now ∙ long at ∙ sym same) c.in_ok-sums.ensures)
 
 pub products_of-requires : goal.products_of-requires
-products_of-requires c = grind (arith, common_steps)
+products_of-requires c r low =
+    let is = c.requires.1.1 in let count = ap (λ (xs : List (Vec ℕ Global)). length xs) c.deref.ensures.value in let rows = length-lists_of c.args.self.now.holes.items in
+    let sides : length c.deref-3.result.now ≡ c.args.self.now.equations.count = sym (length-byte_lists c.deref-3.result.now)
+    ∙ ap (λ (xs : List (List ℕ)). length xs) (ap byte_lists c.deref-3.ensures.value ∙ c.in_ok-borrowed.ensures ∙ ap (λ (xs : List (Vec ℕ Global)). lists_of xs) c.deref-2.ensures.value) ∙ c.in_ok-right.ensures.count in
+    let row = is.holes.vectors r (let few = is.holes.count in omega (arith, low, count, rows, few)) in rw c.deref.ensures.value (omega (arith, sides, row.0))
