@@ -1,5 +1,5 @@
 -- The parts of a repair are those of the definitions.
-use Rattle.par2_repair.proofs.Common.{◌≡◌, ◌⊎◌, inl, inr, subst, ℕ, List, [], ◌∷◌, ◌++◌, length, map, refl, sym, ap, ap₂, ◌∙◌, Bool, true, false, not, cond, ◌&&◌, ◌||◌, ◌+◌, arith, Ok, ◌==◌, Option, is_none, filter, filter_map, flat_map, None, Some, AllByRecursion, enumerate_from, list_any, bytes_eq, or_right, and_parts, not-true, false_from_ne_true, is_incomplete, matching, matches, lost, survivors, candidates, incomplete_names, known, is_par_name, is_among, map-map, Change, Rename, Remove, Pair, first_fault, fault_where, Folder, bytes_of, has, now_at, repair_changes, repair_removals, is_repairable, rank, aside, put_aside, names_without_match, rebuilt, par_files, files_of_slices, is_par_file, rebuilt_targets, ParSet, Target, set_of, found, Fault, NotRepairable, all-append, filter-map, all-each, all-filter, lost_of, long_aside, undetermined_fault, list_all, RepairFailed, matches_taken, writes, removed, renamed, place_in, BTreeMap, BTreeSet, contains, slice_cmp, nat_cmp, option_map, itself, among-filter, among_some, clash, repair_refusal, Err, Verify, Repair, Purge, then_fault, purge_changes, LeadsToAfter, changes_of, set_in, purge_refusal, by_set, early_refusal, refusal, AreFew, command_leads, set_in_reads, same_ok, repair_by, append-nil, bytes_eq-Decides, filter-append, filter_agree, names_there, HasAsides, distinct, same_either_way, AreDistinct, distinct-filter, position_from, NoSuchFile, absent_file, missing, position_from-zero, at_none, never_found, ◌<◌, all_below_are, found_one, length-map, zip, slice_get, IsDistinct, range_with_len, incomplete, intact_names, distinct_from_std, std_from_distinct, listed_at, first_intact, without_number, matched_from, matched_numbers, NumbersAreNames, option_and_then, slice_get-get_or, md5, and-false, HoldsOwned, repairable-iff, matches_of_incomplete, all_weaker, filter_passes, recursion_from_All}
+use Rattle.par2_repair.proofs.Common.{◌≡◌, ◌⊎◌, inl, inr, subst, ℕ, List, [], ◌∷◌, ◌++◌, length, map, refl, sym, ap, ap₂, ◌∙◌, Bool, true, false, not, cond, ◌&&◌, ◌||◌, ◌+◌, arith, Ok, ◌==◌, Option, is_none, filter, filter_map, flat_map, None, Some, AllByRecursion, enumerate_from, list_any, bytes_eq, or_right, and_parts, not-true, false_from_ne_true, is_incomplete, matching, matches, lost, survivors, candidates, incomplete_names, known, is_par_name, is_among, map-map, Change, Rename, Remove, Pair, first_fault, fault_where, Folder, bytes_of, has, now_at, repair_changes, repair_removals, is_repairable, aside, put_aside, names_without_match, rebuilt, par_files, files_of_slices, is_par_file, rebuilt_targets, ParSet, Target, set_of, found, Fault, all-append, filter-map, all-each, all-filter, lost_of, long_aside, undetermined_fault, list_all, RepairFailed, matches_taken, writes, removed, renamed, place_in, BTreeMap, BTreeSet, contains, slice_cmp, nat_cmp, option_map, itself, among-filter, among_some, clash, repair_refusal, Err, Verify, Repair, Purge, then_fault, purge_changes, LeadsToAfter, changes_of, set_in, purge_refusal, by_set, early_refusal, refusal, AreFew, command_leads, set_in_reads, same_ok, repair_by, append-nil, bytes_eq-Decides, filter-append, filter_agree, names_there, HasAsides, distinct, same_either_way, AreDistinct, distinct-filter, position_from, NoSuchFile, absent_file, missing, position_from-zero, at_none, never_found, ◌<◌, all_below_are, found_one, length-map, zip, slice_get, IsDistinct, range_with_len, incomplete, intact_names, distinct_from_std, std_from_distinct, listed_at, first_intact, without_number, matched_from, matched_numbers, NumbersAreNames, option_and_then, slice_get-get_or, md5, and-false, HoldsOwned, repairable-iff, matches_of_incomplete, all_weaker, filter_passes, recursion_from_All}
 use Rattle.par2_spec.specs.Prelude.{accepted, names as names_in, all_below}
 
 -- the refusal if a file has another MD5 than its target describes

@@ -170,13 +170,14 @@ module _ (folder : Folder) (base : List ℕ) (extras : List (List ℕ)) where
           (targets_found folder set names (size_positive set.slice_size sound.size) (sized_from_counted set.slice_size set.targets sound.pairs) (present_searched folder set extras)))
 
       -- the report has these parts
-      pub answered : (reports : List TargetReport) (numbers : List ℕ) (count : ℕ) → reports ≡ map (said_of folder tree is_lost) set.targets → numbers ≡ numbers_of_lost 0 is_lost (all_pairs set)
-          → count ≡ rank numbers (survivors set) → report_in folder base extras ≡ Ok (record { set_id = set.id; targets = reports; lost = length numbers; rank = count })
+      pub answered : (id : List ℕ) (reports : List TargetReport) (numbers : List ℕ) (n count : ℕ) → id ≡ set.id → reports ≡ map (said_of folder tree is_lost) set.targets → numbers ≡ numbers_of_lost 0 is_lost (all_pairs set)
+          → n ≡ length numbers → count ≡ rank numbers (survivors set) → report_in folder base extras ≡ Ok (record { set_id = id; targets = reports; lost = n; rank = count })
       unfolding report_of known
-      answered reports numbers count said lost_ones is_rank =
+      answered id reports numbers n count own said lost_ones long is_rank =
           let sound = sound_of folder base set (set_in_reads folder base extras set reads).0 in
           let reported : reports ≡ (report_of folder set names).targets =
           said ∙ said_so folder set names tree held finder is_lost set.targets (states folder set names tree held (distinct_from_std _ sound.names_once)) are_lost ∙ sym (by_target folder set names) in
           let missing : numbers ≡ lost (known folder set names) = lost_ones ∙ numbered finder is_lost 0 (all_pairs set) (all-flat_map _ _ (λ (t : Target). t.pairs) (λ t h. h) set.targets are_lost) in
-          let report = λ (reports : List TargetReport) (numbers : List ℕ) (count : ℕ). let r : Report = record { set_id = set.id; targets = reports; lost = length numbers; rank = count } in r in
-          accepted_in ∙ ap Ok (sym (ap (report reports numbers) is_rank ∙ ap₂ (λ (rs : List TargetReport) (ns : List ℕ). report rs ns (rank ns (survivors set))) reported missing))
+          let report = λ (id : List ℕ) (reports : List TargetReport) (n count : ℕ). let r : Report = record { set_id = id; targets = reports; lost = n; rank = count } in r in
+          accepted_in ∙ ap Ok (sym (ap₂ (λ (id : List ℕ) n. report id reports n count) own long ∙ ap (report set.id reports (length numbers)) is_rank
+          ∙ ap₂ (λ (rs : List TargetReport) (ns : List ℕ). report set.id rs (length ns) (rank ns (survivors set))) reported missing))

@@ -51,7 +51,6 @@ pub fn is_incomplete(folder: &Folder, set: &ParSet, target: &Target) -> bool
 }
 
 // The incomplete targets of a set, in order, and a tree of the names of the others.
-#[tactic(auto, using(std::proofs::lemmas::List::take_all))]
 fn parted<'s>(
     alloc: Global,
     folder: &Folder,
@@ -147,7 +146,6 @@ pub fn matches_by_name(alloc: Global, incomplete: &[Incomplete]) -> Result<Match
 }
 
 // Each name once, in the order of first occurrence: an extra file may be named twice or be a target.
-#[tactic(auto, using(std::proofs::lemmas::List::take_all))]
 fn distinct(alloc: Global, names: &[&Name]) -> Result<Vec<Name>>
     ensures { IfOk result (λ list. list.items ≡ distinct (map (λ name. name.now) names.now)) }
 {

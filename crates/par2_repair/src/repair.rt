@@ -2,9 +2,9 @@
 //! rebuilds the targets without one, and lists the changes. The written files of a draft aren't checked yet: the caller
 //! digests `Draft::buffers`, and `Draft::tested` compares the MD5s and returns the changes, as `plan_repair` does.
 
-ghost use Rattle.std.specs.Prelude.{◌≡◌, ◌⊎◌, ◌++◌, ℕ, List, IsTrue, IfErr, IfOk, OnOk, None, map, filter_map};
+ghost use Rattle.std.specs.Prelude.{◌≡◌, ◌⊎◌, ◌++◌, ℕ, List, IsTrue, IfErr, IfOk, OnOk, None, Ok, map, filter_map};
 ghost use Rattle.std.specs.Option.{option_copied};
-ghost use Rattle.par2_spec.specs.Prelude.{are_applicable, effects, AreFew, AreFewFor, purge_changes, purge_refusal, matches, rebuilt_targets, RestoresFiles, RestoresInputs, folder_left, FailsFor, Lists, FailsAs, GivesChanges, LeadsAs, RefusesEarly, SucceedsAs, repair_of, Purge};
+ghost use Rattle.par2_spec.specs.Prelude.{are_applicable, effects, AreFew, AreFewFor, purge_changes, purge_refusal, matches, rebuilt_targets, RestoresFiles, RestoresInputs, folder_left, FailsFor, Lists, FailsAs, GivesChanges, LeadsAs, RefusesEarly, SucceedsAs, repair_of, set_in, Purge, Repair};
 ghost use Rattle.par2_repair.specs.Repairing.{HasAsides, HasItsMd5s, IsDraft, WritesAsDescribed, bytes_written, matches_taken, names_there, place_in, removed, renamed, repair_by, writes};
 ghost use Rattle.par2_sets.specs.SetReading.{HoldsOwned, long_aside, own_files};
 ghost use Rattle.par2_repair.specs.Findings.{words};
@@ -63,7 +63,6 @@ fn now_at(asides: &Asides, name: &Name) -> Name
 }
 
 // Adds the changes that put these files aside, each by a rename.
-#[tactic(auto, using(std::proofs::Common::append_assoc, std::proofs::lemmas::List::map_more))]
 fn push_asides(changes: &mut Changes, names: &[Name], asides: &Asides) -> Result<()>
     ensures { OnOk result (changes.new ≡ changes.old ++ renamed asides.now names.now) }
 {
@@ -116,7 +115,6 @@ fn push_removed(
 // The changes of a repair: files of incomplete targets are put aside, targets take their matches, and the targets without
 // a match, `restored`, are written. A repair that purges then removes the asides that are left and the set's PAR2 files,
 // but no match, because it is a target by then. It returns `NameTooLong` if an aside would have more than 255 bytes.
-#[tactic(auto, using(crate::proofs::Steps::repair_changes))]
 fn repair_changes(
     alloc: Global,
     folder: &Folder,
@@ -147,18 +145,36 @@ fn repair_changes(
         return Ok(changes);
     }
     let matching = matching(alloc, incomplete)?;
-    let files = par_files(alloc, &reading.set, &reading.own_files)?;
     push_removed(&mut changes, &put_aside, &asides, &matching)?;
+    let files = par_files(alloc, &reading.set, &reading.own_files)?;
     push_removed(&mut changes, &files, &asides, &matching)?;
     Ok(changes)
 }
 
 // The MD5s that the set describes for these targets, in order, with which `Draft::tested` compares.
-#[tactic(auto, using(crate::proofs::Steps::md5s_of))]
 fn md5s_of(alloc: Global, restored: &[Restored]) -> Result<Vec<[u8; 16]>>
     ensures { Lists (map (λ c. c.0.md5) restored.now) result }
 {
     restored.iter().map(Restored::md5).collect(alloc)
+}
+
+// The draft of a repair of the set that was read. If it is that of a base, it is refused as the repair of the base is.
+fn draft_of(alloc: Global, folder: &Folder, reading: &Reading, purge: bool) -> Result<Draft, Fault>
+    ensures refused { (base : List ℕ) → let extras = reading.now.extras.items in
+        set_in folder.now.files base extras ≡ Ok reading.now.set
+        → FailsAs folder.now.files (Repair base extras purge) result }
+    ensures draft { (base : List ℕ) → let extras = reading.now.extras.items in
+        set_in folder.now.files base extras ≡ Ok reading.now.set
+        → reading.now.own_files.items ≡ own_files folder.now.files reading.now.set.id
+        → IfOk result (IsDraft folder.now.files base extras purge) }
+{
+    let set = &reading.set;
+    let candidates = candidates(alloc, folder, set, &reading.extras)?;
+    let incomplete = matches(alloc, folder, set, &candidates)?;
+    let restored = restored_files(alloc, folder, set, &candidates, &incomplete)?;
+    let md5s = md5s_of(alloc, &restored)?;
+    let changes = repair_changes(alloc, folder, reading, &incomplete, restored, purge)?;
+    Ok(Draft { changes, md5s })
 }
 
 /// The draft of a repair. Files of incomplete targets are put aside, targets with a match take it, and the others are
@@ -178,13 +194,7 @@ pub fn draft_repair(
     ensures draft { IfOk result (IsDraft folder.now.files base.now (words extras.now) purge) }
 {
     let reading = read(alloc, folder, base, extras)?;
-    let set = &reading.set;
-    let candidates = candidates(alloc, folder, set, &reading.extras)?;
-    let incomplete = matches(alloc, folder, set, &candidates)?;
-    let restored = restored_files(alloc, folder, set, &candidates, &incomplete)?;
-    let md5s = md5s_of(alloc, &restored)?;
-    let changes = repair_changes(alloc, folder, &reading, &incomplete, restored, purge)?;
-    Ok(Draft { changes, md5s })
+    draft_of(alloc, folder, &reading, purge)
 }
 
 // The changes of a draft, if the written files have the MD5s that the set describes (`HasItsMd5s`).
@@ -201,7 +211,6 @@ fn tested(alloc: Global, draft: Draft) -> Result<Changes, Fault>
 /// The changes of a repair whose written files have the described MD5s. If the set was made from certain files, and
 /// no checksum collides, the changes lead to a folder that has these files. The program doesn't call it,
 /// because a session drafts its repairs.
-#[tactic(auto, using(par2_spec::proofs::ListsLaws::passed))]
 pub fn plan_repair(
     alloc: Global,
     folder: &Folder,
@@ -264,7 +273,6 @@ impl Draft {
     ghost use Rattle.par2_repair.specs.Repairing.{buffers_written};
 
     /// The bytes of the files that the changes write, in order: the caller computes their MD5s for `tested`.
-    #[tactic(auto, using(std::proofs::lemmas::List::take_all))]
     pub fn buffers(&self, alloc: Global) -> Result<Vec<&[u8]>>
         ensures { IfOk result (λ all. buffers_of all.items ≡ buffers_written self.now.changes) }
     {
@@ -298,7 +306,6 @@ impl Draft {
 
 // The changes of a purge of this set: a removal for each of its PAR2 files, which are `own` without targets. It returns
 // `NotComplete` if a target is absent or not intact.
-#[tactic(auto, using(std::proofs::lemmas::List::map_more, std::proofs::lemmas::List::take_all))]
 fn purge_of(alloc: Global, folder: &Folder, set: &ParSet, own: &[Name]) -> Result<Changes, Fault>
     requires { own.now ≡ own_files folder.now.files set.now.id }
     ensures refused { FailsFor (purge_refusal folder.now.files set.now) result }

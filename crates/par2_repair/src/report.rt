@@ -30,7 +30,6 @@ use std::collections::BTreeSet;
 
 // The report on this set, whose files and slices are searched for in the files of its targets and in the extras. If it
 // is the set of a base, this is the report of that base.
-#[tactic(auto, using(par2_spec::proofs::ListsLaws::std_from_distinct, crate::proofs::RepairParts::distinct_once))]
 fn report_of(alloc: Global, folder: &Folder, set: &ParSet, extras: &[Name]) -> Result<Report>
     ensures { (base : List ℕ) → set_in folder.now.files base extras.now ≡ Ok set.now →
         let answer = report_in folder.now.files base extras.now in
@@ -59,7 +58,6 @@ fn report_of(alloc: Global, folder: &Folder, set: &ParSet, extras: &[Name]) -> R
 /// extras. Its verdict is complete if and only if no target is incomplete; else repairable if and only if the surviving
 /// recovery slices determine the lost slices. A repair is refused as not repairable if and only if the verdict is that.
 /// Memory is reported only if an allocation fails.
-#[tactic(auto, using(crate::proofs::Steps::check))]
 pub fn check(alloc: Global, folder: &Folder, base: &str, extras: &[String]) -> Result<Report, Fault>
     ensures refused { FailsIn (report_in folder.now.files base.now (words extras.now)) result }
     ensures early { RefusesEarly folder.now.files (verify_of base.now extras.now) result }
@@ -126,7 +124,6 @@ impl Report {
     /// Complete, repairable or neither. A report on a set is repairable if and only if a target is incomplete and the
     /// surviving recovery slices determine the lost slices, that is, if the rank is the number of lost slices. It
     /// allocates nothing.
-    #[tactic(auto, using(crate::proofs::Steps::verdict))]
     pub fn verdict(&self) -> Verdict
         ensures answer { result ≡ verdict_of (report_view self.now) }
         ensures words { (folder : folders.Folder) (base : List ℕ) (extras : List (List ℕ))
@@ -183,7 +180,6 @@ fn target_report(
 }
 
 // The numbers of the lost slices, increasing. They count the slices of the set, which have these checksums, from 0.
-#[tactic(auto, using(crate::proofs::Steps::lost_numbers))]
 fn lost_numbers(alloc: Global, pairs: &[Pair], lost: &BTreeSet<Pair>) -> Result<Vec<u32>>
     requires { length pairs.now ≤ 32768 }
     ensures { Lists (numbers_of_lost 0 (contains count_cmp lost.now) pairs.now) result }

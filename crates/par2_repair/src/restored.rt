@@ -66,7 +66,6 @@ fn push_slice(file: &mut Vec<u8>, slice: &[u8], s: usize, size: usize) -> Result
 }
 
 // The first `size` bytes of these slices, joined with their padding: the file of this length that has these slices.
-#[tactic(auto, using(std::proofs::lemmas::List::take_all))]
 fn joined(alloc: Global, slices: &[&[u8]], slice_size: usize, size: usize) -> Result<Vec<u8>>
     ensures { Lists (take size (concat (map (padded slice_size) (buffers_of slices.now)))) result }
 {
@@ -120,7 +119,6 @@ fn slice_at<'a>(window: Option<&'a [u8]>, rebuilt: &mut Iter<'a, Vec<u8>>) -> &'
 }
 
 // The found slices, and between them the rebuilt ones: the k-th rebuilt slice takes the place of the k-th `None`.
-#[tactic(auto, using(crate::proofs::Steps::merged))]
 fn merged<'a>(
     alloc: Global,
     windows: &[Option<&'a [u8]>],
@@ -139,7 +137,6 @@ fn merged<'a>(
 }
 
 // The targets whose names are in `among`, in the order of the set, cut out of all its slices, which may lack padding.
-#[tactic(auto, using(crate::proofs::Steps::cut_out))]
 fn cut_out<'s>(
     alloc: Global,
     set: &'s ParSet,
@@ -174,7 +171,6 @@ fn cut_out<'s>(
 /// The incomplete targets without a match, in the order of the set, made from slices that are found in the candidates or
 /// rebuilt. Their lengths are right, and their MD5s are left to check. If there are none, nothing is searched. It
 /// returns `NotRepairable` if the lost slices aren't determined.
-#[tactic(auto, using(crate::proofs::Steps::restored_files))]
 pub fn restored_files<'s>(
     alloc: Global,
     folder: &Folder,

@@ -1,4 +1,4 @@
-use Rattle.par2_repair.proofs.Names.{◌≡◌, ◌∙◌, ◌+◌, ◌++◌, ◌∷◌, [], List, ℕ, Bor, true, false, not, cond, map, sym, ap, subst, take, rules, map_more, not-true, not-false, is_among, distinct, HoldsNames, holds_more, distinct_more}
+use Rattle.par2_repair.proofs.Names.{◌≡◌, ◌∙◌, ◌+◌, ◌++◌, ◌∷◌, [], List, ℕ, Bor, true, false, not, cond, map, sym, ap, subst, take, rules, map_more, not-true, not-false, is_among, distinct, HoldsNames, holds_more, distinct_more, take_all}
 use Rattle.par2_repair.proofs.matching.distinct.Goals as goal
 
 abbrev now : Bor (List ℕ) → List ℕ
@@ -28,3 +28,6 @@ loop-name-preserved c =
       once ∙ sym (distinct_more before item) ∙ ap distinct (sym more),
       subst (HoldsNames c.insert.new.self) (sym more) (holds_more now _ _ key before c.in_ok-insert.ensures.updates.0 c.loop-name.invariant.1),
     )
+
+pub returns : goal.returns
+returns c = c.loop-name.invariant.0 ∙ ap (λ (ks : List (Bor (List ℕ))). distinct (map now ks)) (take_all c.loop-name.name-index c.args.names.now c.loop-name-test.false)

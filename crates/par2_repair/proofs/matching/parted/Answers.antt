@@ -40,3 +40,6 @@ pub returns-clause-intact : goal.returns-clause-intact
 returns-clause-intact c =
     subst (λ (ts : List Target). HoldsNames c.loop-target.intact (map (λ u. u.name) (filter (λ u. not (is_incomplete c.args.folder.now.files c.args.set.now u)) ts)))
     (take_all c.loop-target.target-index c.targets-target-items.result.now c.loop-target-test.false ∙ c.targets-target-items.ensures.value) c.loop-target.invariant.intact
+
+pub returns-clause-incomplete : goal.returns-clause-incomplete
+returns-clause-incomplete c = c.loop-target.invariant.incomplete ∙ ap (filter (is_incomplete c.args.folder.now.files c.args.set.now)) (take_all c.loop-target.target-index c.targets-target-items.result.now c.loop-target-test.false ∙ c.targets-target-items.ensures.value)

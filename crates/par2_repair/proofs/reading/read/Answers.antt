@@ -1,5 +1,5 @@
 use Rattle.par2_repair.proofs.Names.{◌≡◌, ◌⊎◌, ◌∙◌, ◌∷◌, [], ℕ, List, Bool, inl, inr, map, refl, sym, ap, Err, Result, Fault, Memory, ParSet, set_of, set_in, err_from_is_err_and, err_again, answered_so, cond, rules, tests, string_bytes, subst, Global, true, false, filter, filter_map, is_some, IfOk, IfSome, Option, String, Some, cons_option, Folder, has, YieldsList-from_slice, items_from_collect, YieldsList-from_filter_map, None, all_there, unread, all_present, is_early, not_early, Returns, Reading}
-use Rattle.par2_repair.proofs.reading.read.Goals.{In_ok-base}
+use Rattle.par2_repair.proofs.reading.read.Goals.{In_ok-base, In_ok-extras}
 use Rattle.par2_repair.proofs.reading.read.Goals as goal
 
 -- the name of a file, if the word is one
@@ -21,13 +21,14 @@ present folder (word ∷ words) = step (has folder (string_bytes word)) (present
     step true e = ap (λ names. string_bytes word ∷ names) e
     step false e = e
 
+listed : (c : In_ok-extras) → c.in_ok-extras.extras.items ≡ filter_map (named c.args.folder.now.files) c.args.extras.now
+listed c =
+    subst (λ r. IfOk r (λ list. list.items ≡ filter_map (named c.args.folder.now.files) c.args.extras.now)) c.in_ok-extras.was
+    (items_from_collect c.collect.result c.collect.ensures.ran (YieldsList-from_filter_map _ (named c.args.folder.now.files) (YieldsList-from_slice c.args.extras.now cc) c.filter_map-extras.ensures.closure (λ x r q k. search (rules, tests, is_named))))
+
 pub returns-clause-extras : goal.returns-clause-extras
 returns-clause-extras c =
-    let folder = c.args.folder.now.files in
-    let extras : List (String Global) = c.args.extras.now in
-    subst (λ r. IfOk r (λ list. list.items ≡ filter_map (named folder) extras)) c.in_ok-extras.was
-    (items_from_collect _ c.collect.ensures.ran (YieldsList-from_filter_map _ (named folder) (YieldsList-from_slice extras cc) c.filter_map-extras.ensures.closure (λ x r q k. search (rules, tests, is_named))))
-    ∙ present folder extras ∙ all_there folder c.args.base.now (map string_bytes extras) c.in_ok-base.ensures.1
+    listed (goal.at.returns-clause-extras c).In_ok-extras ∙ present c.args.folder.now.files c.args.extras.now ∙ all_there c.args.folder.now.files c.args.base.now (map string_bytes c.args.extras.now) c.in_ok-base.ensures.1
 
 -- the set that was read, or its fault
 abbrev Answers : Result ParSet Fault → Result Reading Fault → Type 0

@@ -10,36 +10,27 @@ returns-clause-early c fault early = absurd (ok_no_err c.in_ok-reading.reading f
 
 pub returns-in_err-reading-clause-refused : goal.returns-in_err-reading-clause-refused
 returns-in_err-reading-clause-refused c =
-    let folder = c.args.folder.now.files in
-    let fault = c.in_err-reading.field-0.0 in
-    refused_by (λ y. set_in folder c.args.base.now [] ≡ Err y) (λ y. refusal folder (Purge c.args.base.now) ≡ Some y) c.from_residual.result fault
-    (err_from_is_err_and c.from_residual.result c.from_residual.ensures.1) c.in_err-reading.ensures.set (purge_unread folder c.args.base.now fault)
+    refused_by (λ y. set_in c.args.folder.now.files c.args.base.now [] ≡ Err y) (λ y. refusal c.args.folder.now.files (Purge c.args.base.now) ≡ Some y) c.from_residual.result c.in_err-reading.field-0.0
+    (err_from_is_err_and c.from_residual.result c.from_residual.ensures.1) c.in_err-reading.ensures.set (purge_unread c.args.folder.now.files c.args.base.now c.in_err-reading.field-0.0)
 
 pub returns-clause-refused : goal.returns-clause-refused
 returns-clause-refused c =
-    let reason = purge_refused c.args.folder.now.files c.args.base.now c.in_ok-reading.reading.set c.in_ok-reading.ensures.set in
-    subst (λ (o : Option Fault). IfErr c.purge_of.result (λ y. (y ≡ Memory) ⊎ (o ≡ Some y))) (sym reason) c.purge_of.ensures.refused
+    subst (λ (o : Option Fault). IfErr c.purge_of.result (λ y. (y ≡ Memory) ⊎ (o ≡ Some y))) (sym (purge_refused c.args.folder.now.files c.args.base.now c.in_ok-reading.reading.set c.in_ok-reading.ensures.set)) c.purge_of.ensures.refused
 
 pub returns-clause-accepted : goal.returns-clause-accepted
 returns-clause-accepted c =
-    let reason = purge_refused c.args.folder.now.files c.args.base.now c.in_ok-reading.reading.set c.in_ok-reading.ensures.set in
-    subst (λ (o : Option Fault). IfOk c.purge_of.result (λ _. o ≡ None)) (sym reason) c.purge_of.ensures.accepted
+    subst (λ (o : Option Fault). IfOk c.purge_of.result (λ _. o ≡ None)) (sym (purge_refused c.args.folder.now.files c.args.base.now c.in_ok-reading.reading.set c.in_ok-reading.ensures.set)) c.purge_of.ensures.accepted
 
 pub returns-clause-changes : goal.returns-clause-changes
 returns-clause-changes c =
-    let all = purge_by_set c.args.folder.now.files c.args.base.now c.in_ok-reading.reading.set c.in_ok-reading.ensures.set in
-    subst (λ (changes : List Change). IfOk c.purge_of.result (λ made. made ≡ changes)) (sym all) c.purge_of.ensures.changes
+    subst (λ (changes : List Change). IfOk c.purge_of.result (λ made. made ≡ changes)) (sym (purge_by_set c.args.folder.now.files c.args.base.now c.in_ok-reading.reading.set c.in_ok-reading.ensures.set)) c.purge_of.ensures.changes
 
 pub returns-clause-applies : goal.returns-clause-applies
 returns-clause-applies c =
-    let folder = c.args.folder.now.files in
-    IfOk-weaker c.purge_of.result (λ changes. changes ≡ changes_of folder (Purge c.args.base.now)) (λ changes. IsTrue (are_applicable folder changes))
-    (λ changes is. subst (λ (cs : List Change). IsTrue (are_applicable folder cs)) (sym is) (purge_leads folder c.args.base.now).0)
-    (returns-clause-changes c)
+    IfOk-weaker c.purge_of.result (λ changes. changes ≡ changes_of c.args.folder.now.files (Purge c.args.base.now)) (λ changes. IsTrue (are_applicable c.args.folder.now.files changes))
+    (λ changes is. subst (λ (cs : List Change). IsTrue (are_applicable c.args.folder.now.files cs)) (sym is) (purge_leads c.args.folder.now.files c.args.base.now).0) (returns-clause-changes c)
 
 pub returns-clause-leads : goal.returns-clause-leads
 returns-clause-leads c =
-    let folder = c.args.folder.now.files in
-    IfOk-weaker c.purge_of.result (λ changes. changes ≡ changes_of folder (Purge c.args.base.now)) (λ changes. effects folder changes ≡ after folder (Purge c.args.base.now))
-    (λ changes is. ap (effects folder) is ∙ (purge_leads folder c.args.base.now).1)
-    (returns-clause-changes c)
+    IfOk-weaker c.purge_of.result (λ changes. changes ≡ changes_of c.args.folder.now.files (Purge c.args.base.now)) (λ changes. effects c.args.folder.now.files changes ≡ after c.args.folder.now.files (Purge c.args.base.now))
+    (λ changes is. ap (effects c.args.folder.now.files) is ∙ (purge_leads c.args.folder.now.files c.args.base.now).1) (returns-clause-changes c)

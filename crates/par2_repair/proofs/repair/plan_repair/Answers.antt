@@ -31,12 +31,10 @@ returns-clause-inputs c =
 
 pub returns-in_err-draft-clause-restores : goal.returns-in_err-draft-clause-restores
 returns-in_err-draft-clause-restores c =
-    let fault = c.in_err-draft.field-0.0 in
-    err_again (λ r. RestoresFiles c.args.folder.now.files c.args.base.now (map string_bytes c.args.extras.now) (folder_left (effects c.args.folder.now.files) r)) c.from_residual.result fault (err_from_is_err_and c.from_residual.result c.from_residual.ensures.1)
-    (c.repair_restores_the_files.ensures _ _ _ c.args.purge (Err fault) (record { left = tt; refused = c.in_err-draft.ensures.refused }))
+    err_again (λ r. RestoresFiles c.args.folder.now.files c.args.base.now (map string_bytes c.args.extras.now) (folder_left (effects c.args.folder.now.files) r)) c.from_residual.result c.in_err-draft.field-0.0 (err_from_is_err_and c.from_residual.result c.from_residual.ensures.1)
+    (c.repair_restores_the_files.ensures _ _ _ c.args.purge (Err c.in_err-draft.field-0.0) (record { left = tt; refused = c.in_err-draft.ensures.refused }))
 
 pub returns-in_err-draft-clause-inputs : goal.returns-in_err-draft-clause-inputs
 returns-in_err-draft-clause-inputs c =
-    let fault = c.in_err-draft.field-0.0 in
-    err_again (λ r. RestoresInputs c.args.folder.now.files c.args.base.now (map string_bytes c.args.extras.now) (folder_left (effects c.args.folder.now.files) r)) c.from_residual.result fault (err_from_is_err_and c.from_residual.result c.from_residual.ensures.1)
-    (c.repair_restores_the_inputs.ensures _ _ _ c.args.purge (Err fault) (record { left = tt; refused = c.in_err-draft.ensures.refused }))
+    err_again (λ r. RestoresInputs c.args.folder.now.files c.args.base.now (map string_bytes c.args.extras.now) (folder_left (effects c.args.folder.now.files) r)) c.from_residual.result c.in_err-draft.field-0.0 (err_from_is_err_and c.from_residual.result c.from_residual.ensures.1)
+    (c.repair_restores_the_inputs.ensures _ _ _ c.args.purge (Err c.in_err-draft.field-0.0) (record { left = tt; refused = c.in_err-draft.ensures.refused }))

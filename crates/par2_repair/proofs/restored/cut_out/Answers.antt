@@ -1,4 +1,4 @@
-use Rattle.par2_repair.proofs.Names.{◌≡◌, ◌∙◌, ◌<◌, ◌+◌, ◌++◌, ◌∷◌, [], List, ℕ, Bor, true, false, cond, length, map, take, drop, get_or, sym, ap, arith, rules, concat, flat_map, filter, drop_more, append-nil, length-append, take-map, drop-map, padded, buffers_of, contains, slice_cmp, nat_cmp, Pair, Target, walked, target_more}
+use Rattle.par2_repair.proofs.Names.{◌≡◌, ◌∙◌, ◌<◌, ◌+◌, ◌++◌, ◌∷◌, [], List, ℕ, Bor, true, false, cond, length, map, take, drop, get_or, sym, ap, arith, rules, concat, flat_map, filter, drop_all, drop_more, append-nil, length-append, take-map, drop-map, padded, buffers_of, contains, slice_cmp, nat_cmp, Pair, Target, walked, target_more}
 use Rattle.par2_repair.proofs.restored.cut_out.Goals as goal
 
 abbrev pairs_of : List Target → List Pair
@@ -47,3 +47,10 @@ loop-target-preserved c =
           ∙ ap (λ us. old ++ filter test (walked us (drop first all))) (sym here) ∙ c.loop-target.invariant.targets;
       long = omega (arith, many, left, c.loop-target.invariant.long);
     }
+
+pub returns : goal.returns
+returns c =
+    let all : List (List ℕ) = map (padded c.args.set.now.slice_size) (buffers_of c.args.slices.now) in
+    let kept = λ (ts : List Target) (slices : List (List ℕ)). filter (λ (x : Target × List ℕ). contains (slice_cmp nat_cmp) c.args.among.now x.0.name) (walked ts slices) in
+    sym (ap (λ ts. c.loop-target.restored.items ++ kept ts (drop c.loop-target.first all)) (drop_all c.loop-target.target-index c.targets-target-items.result.now c.loop-target-test.false) ∙ append-nil c.loop-target.restored.items)
+    ∙ c.loop-target.invariant.targets ∙ ap (λ ts. kept ts all) c.targets-target-items.ensures.value

@@ -1,4 +1,4 @@
-use Rattle.par2_repair.proofs.Names.{◌≡◌, ◌∙◌, ◌%◌, List, length, map, sym, ap, ap₂, subst, arith, AllByRecursion, IsStrictlyIncreasing, length-map, Pair, all_pairs, bytes_of, found, known, Window, padded_window, buffers_of, known_of, recovered_of, exponents_of, size_even, short_present}
+use Rattle.par2_repair.proofs.Names.{◌≡◌, ◌∙◌, ◌%◌, List, length, map, sym, ap, ap₂, subst, arith, AllByRecursion, IsStrictlyIncreasing, length-map, Pair, all_pairs, bytes_of, found, known, Window, padded_window, buffers_of, recovered_of, exponents_of, size_even, short_present}
 use Rattle.par2_repair.proofs.restored.survivors_of.Goals as goal
 
 pub returns-clause-are : goal.returns-clause-are
