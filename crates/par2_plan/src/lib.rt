@@ -4,9 +4,9 @@
 #![tactic(auto)]
 
 mod create;
+mod repair;
 
 pub use create::plan_create;
-pub use par2_repair::{
-    Changes, Fault, Report, State, TargetReport, Verdict, check, plan_purge, plan_repair,
-};
+pub use par2_repair::{Changes, Fault, Report, State, TargetReport, Verdict, check, plan_purge};
 pub use par2_spec::CreateArgs;
+pub use repair::plan_repair;

@@ -13,8 +13,6 @@ pub use Rattle.par2_repair.specs.ReportViews.{report_view}
 pub use Rattle.par2_spec.specs.declared.Verdict.{Verdict}
 pub use Rattle.std.proofs.lemmas.Iterator.Search.{any_from_yields_List}
 pub use Rattle.par2_repair.proofs.Drafts.{is_draft}
-pub use Rattle.par2_spec.specs.Prelude.{RestoresFiles, RestoresInputs, folder_left}
-pub use Rattle.par2_laws.proofs.RepairAnswers.{answers}
 pub use Rattle.std.specs.Slice.Iter.{iter_rest}
 unfoldable pub use Rattle.par2_repair.proofs.Common.{known}
 pub use Rattle.par2_spec.proofs.FilesLaws.{size_even}

@@ -12,5 +12,5 @@ mod restored;
 
 pub use par2_files::Changes;
 pub use par2_spec::{Fault, Verdict};
-pub use repair::{Draft, draft_repair, plan_purge, plan_repair};
+pub use repair::{Draft, draft_repair, plan_purge};
 pub use report::{Report, State, TargetReport, check};

@@ -1,11 +1,11 @@
 //! The changes of a repair and of a purge, or why they are refused. `draft_repair` reads the set, finds the matches,
 //! rebuilds the targets without one, and lists the changes. The written files of a draft aren't checked yet: the caller
-//! digests `Draft::buffers`, and `Draft::tested` compares the MD5s and returns the changes, as `plan_repair` does.
+//! digests `Draft::buffers`, and `Draft::tested` compares the MD5s and returns the changes.
 
 ghost use Rattle.std.specs.Prelude.{◌≡◌, ◌⊎◌, ◌++◌, ℕ, List, IsTrue, IfErr, IfOk, OnOk, None, Ok, map, filter_map};
 ghost use Rattle.std.specs.Option.{option_copied};
-ghost use Rattle.par2_spec.specs.Prelude.{are_applicable, effects, AreFew, AreFewFor, purge_changes, purge_refusal, matches, rebuilt_targets, RestoresFiles, RestoresInputs, folder_left, FailsFor, Lists, FailsAs, GivesChanges, LeadsAs, RefusesEarly, SucceedsAs, repair_of, set_in, Purge, Repair};
-ghost use Rattle.par2_repair.specs.Repairing.{HasAsides, HasItsMd5s, IsDraft, WritesAsDescribed, bytes_written, matches_taken, names_there, place_in, removed, renamed, repair_by, writes};
+ghost use Rattle.par2_spec.specs.Prelude.{are_applicable, effects, AreFew, purge_changes, purge_refusal, matches, rebuilt_targets, FailsFor, Lists, FailsAs, GivesChanges, LeadsAs, RefusesEarly, SucceedsAs, repair_of, set_in, Purge, Repair};
+ghost use Rattle.par2_repair.specs.Repairing.{HasAsides, IsDraft, bytes_written, matches_taken, names_there, place_in, removed, renamed, repair_by, writes};
 ghost use Rattle.par2_sets.specs.SetReading.{HoldsOwned, long_aside, own_files};
 ghost use Rattle.par2_repair.specs.Findings.{words};
 ghost use Rattle.par2_files.specs.Folders.{change_of};
@@ -14,8 +14,6 @@ use crate::matching::{Incomplete, candidates, is_incomplete, matches};
 use crate::reading::{Reading, read};
 use crate::restored::{Restored, restored_files};
 use par2_files::{Change, Changes, Folder, Name};
-use par2_laws::answers::{repair_restores_the_files, repair_restores_the_inputs};
-use par2_md5_lanes::buffer_digests;
 use par2_sets::{ParSet, asides, par_files};
 use par2_spec::{Fault, Result};
 use std::alloc::Global;
@@ -195,54 +193,6 @@ pub fn draft_repair(
 {
     let reading = read(alloc, folder, base, extras)?;
     draft_of(alloc, folder, &reading, purge)
-}
-
-// The changes of a draft, if the written files have the MD5s that the set describes (`HasItsMd5s`).
-fn tested(alloc: Global, draft: Draft) -> Result<Changes, Fault>
-    ensures changes { IfOk result (λ changes. changes ≡ draft.changes) }
-    ensures right { OnOk result (HasItsMd5s draft) }
-    ensures wrong { IfErr result (λ fault. (fault ≡ Fault.Memory) ⊎ ((¬ (HasItsMd5s draft))
-        × (fault ≡ Fault.RepairFailed))) }
-{
-    let md5s = buffer_digests(alloc, &draft.buffers(alloc)?)?;
-    draft.tested(&md5s)
-}
-
-/// The changes of a repair whose written files have the described MD5s. If the set was made from certain files, and
-/// no checksum collides, the changes lead to a folder that has these files. The program doesn't call it,
-/// because a session drafts its repairs.
-pub fn plan_repair(
-    alloc: Global,
-    folder: &Folder,
-    base: &str,
-    extras: &[String],
-    purge: bool,
-) -> Result<Changes, Fault>
-    // It is refused as the definitions say, or memory ran out; early refusals need no memory.
-    ensures refused { FailsAs folder.now.files (repair_of base.now extras.now purge) result }
-    ensures accepted { SucceedsAs folder.now.files (repair_of base.now extras.now purge) result }
-    ensures early { RefusesEarly folder.now.files (repair_of base.now extras.now purge) result }
-    // The changes are those of the definitions. They apply in order and lead to their folder.
-    ensures changes { GivesChanges folder.now.files (repair_of base.now extras.now purge) result }
-    ensures applies { IfOk result (λ changes. IsTrue (are_applicable folder.now.files changes)) }
-    ensures leads { LeadsAs folder.now.files (repair_of base.now extras.now purge) result }
-    // Each file that is written from slices has the described length and MD5, whatever the folder's
-    // files hold. The folder has few enough names to number the asides.
-    ensures written { OnOk result (WritesAsDescribed folder.now.files base.now (words extras.now)) }
-    ensures few { OnOk result (AreFewFor folder.now.files (repair_of base.now extras.now purge)) }
-    // If the set was made from certain files, and no checksum collides, they are in the folder
-    // that the changes lead to. RepairFailed isn't returned, and NotRepairable only if other
-    // slices, too, agree with all that is found.
-    ensures restores { RestoresFiles folder.now.files base.now (words extras.now)
-        (folder_left (effects folder.now.files) result) }
-    // The same holds for a create's inputs that were damaged after it.
-    ensures inputs { RestoresInputs folder.now.files base.now (words extras.now)
-        (folder_left (effects folder.now.files) result) }
-{
-    repair_restores_the_files();
-    repair_restores_the_inputs();
-    let draft = draft_repair(alloc, folder, base, extras, purge)?;
-    tested(alloc, draft)
 }
 
 /// The changes of a repair before the MD5s of the files that it writes are checked, so that these can be computed side

@@ -1,5 +1,5 @@
-use Rattle.par2_repair.proofs.Names.{◌≡◌, ◌⊎◌, inl, inr, List, map, string_bytes, Result, Ok, Err, Option, IfErr, Change, effects, Repair, refusal, after, err_again, err_from_is_err_and, Fault, Memory, RepairFailed, HasItsMd5s, passed, None, Some, RestoresFiles, RestoresInputs, folder_left, answers}
-use Rattle.par2_repair.proofs.repair.plan_repair.Goals as goal
+use Rattle.par2_plan.proofs.Common.{◌≡◌, ◌⊎◌, inl, inr, List, map, string_bytes, Result, Ok, Err, Option, IfErr, Change, effects, Repair, refusal, after, err_again, err_from_is_err_and, Fault, Memory, RepairFailed, HasItsMd5s, passed, None, Some, RestoresFiles, RestoresInputs, folder_left, answers}
+use Rattle.par2_plan.proofs.repair.plan_repair.Goals as goal
 
 failed : {A : Type 0} (P : Type 0) (r : Result A Fault) (cause : Option Fault) → IfErr r (λ y. (y ≡ Memory) ⊎ ((¬ P) × (y ≡ RepairFailed))) → (¬ P → cause ≡ Some RepairFailed) → IfErr r (λ y. (y ≡ Memory) ⊎ (cause ≡ Some y))
 failed P (Ok x) cause h f = tt
