@@ -140,7 +140,6 @@ fn words_in(mut args: Args, alloc: Global) -> Result<Vec<String>, AllocError>
 
 // The words after the program's name, or the failure that `start` prints. `given` is the runtime's result: an error of
 // kind OutOfMemory is reported as out of memory, and any other, such as a word that isn't UTF-8, as wrong arguments.
-#[tactic(auto, using(crate::proofs::Runs::memory_kind, crate::proofs::Runs::other_kind))]
 fn words_of(given: io::Result<Args>, alloc: Global) -> Result<Vec<String>, Failure>
     ensures words { IfOk given (λ args. Lists (drop 1 (into_iter_items args)) result) }
     ensures whole { IsOk given → IfErr result (λ failure. failure ≡ Failure.Refused Fault.Memory) }
