@@ -1,4 +1,4 @@
-//! Laws of the result of a repair, whichever call returns it: `plan_repair` of `par2_repair` or `Session::repair` of
+//! Laws of the result of a repair, whichever call returns it: `plan_repair` of `par2_plan` or `Session::repair` of
 //! `par2_journal`, whose contracts need them. The result is the folder that is left, or a fault.
 
 ghost use Rattle.par2_spec.specs.Prelude.{RefusedRepairLeavesTwoLists, RepairLeavesEachFile, RepairRestoresTheFiles, RepairRestoresTheInputs};
