@@ -126,9 +126,8 @@ impl Changes {
     pub fn new(alloc: Global) -> Self
         ensures { result ≡ [] }
     {
-        Changes {
-            items: Vec::new(alloc),
-        }
+        let items = Vec::new(alloc);
+        Changes { items }
     }
 
     /// Adds a change at the end.

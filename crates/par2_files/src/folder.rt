@@ -52,9 +52,8 @@ impl Folder {
         ensures files { result.files ≡ empty }
         ensures vacant { result.vacant ≡ 0 }
     {
-        Folder {
-            files: Vec::new(alloc),
-        }
+        let files = Vec::new(alloc);
+        Folder { files }
     }
 
     /// The number of files.

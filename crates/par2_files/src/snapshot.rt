@@ -86,8 +86,7 @@ impl<'a> Snapshot<'a> {
         match split {
             Split::Beginning => 0,
             Split::At(name) => match self.search(name) {
-                Ok(at) => at,
-                Err(at) => at,
+                Ok(at) | Err(at) => at,
             },
             Split::End => self.files.len(),
         }
@@ -174,14 +173,14 @@ impl<'a> Absorbing<'a> {
     ghost use Rattle.std.specs.Prelude.{◌≡◌, ◌++◌, ◌∷◌, [], ℕ, List, IfOk, OnOk};
     ghost use Rattle.par2_files.specs.Checkpoints.{AbsorbsTo, AreTo, HaveAbsorbed};
 
-    /// No states. `AreTo`: state k, finished ones first, has absorbed message k or will.
-    pub fn new(alloc: Global) -> Absorbing<'a>
-        ensures { AreTo result [] }
+    /// One state. `AreTo`: state k, finished ones first, has absorbed message k or will.
+    pub fn with_first(alloc: Global, first: Pending<'a>) -> Result<Absorbing<'a>>
+        ensures { (bytes : List ℕ) → AbsorbsTo first.entry bytes
+            → IfOk result (λ absorbing. AreTo absorbing (bytes ∷ [])) }
     {
-        Absorbing {
-            states: Vec::new(alloc),
-            pendings: Vec::new(alloc),
-        }
+        let (states, mut pendings) = (Vec::new(alloc), Vec::new(alloc));
+        pendings.push(first)?;
+        Ok(Absorbing { states, pendings })
     }
 
     // Absorbs all parts by one `absorb_each` and appends the states to the finished ones.

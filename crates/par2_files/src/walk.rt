@@ -16,7 +16,7 @@ ghost use Rattle.md5.specs.Md5.{md5};
 ghost use Rattle.par2_md5_lanes.specs.Messages.{HasAbsorbed, buffers_of};
 ghost use Rattle.par2_spec.specs.Prelude.{are_applicable, folders_after, takes_all, fingerprint};
 ghost use Rattle.par2_files.specs.Folders.{change_of};
-ghost use Rattle.par2_files.specs.declared.snapshot.Split.TheVariants.{At};
+ghost use Rattle.par2_files.specs.declared.snapshot.Split.TheVariants.{At, End};
 ghost use Rattle.par2_spec.specs.Folders as defined;
 
 use crate::snapshot::{Absorbing, Snapshot, Split};
@@ -46,8 +46,8 @@ fn absorbing_before<'a>(
         IfOk result (λ x. AreTo x (group_buffers to.entry folder.now.files changes)) }
 {
     let mut snapshot = folder.snapshot()?;
-    let mut absorbing = Absorbing::new(alloc);
-    absorbing.push(snapshot.pending_between(alloc, states[0], from, to)?)?;
+    let first = snapshot.pending_between(alloc, states[0], from, to)?;
+    let mut absorbing = Absorbing::with_first(alloc, first)?;
     let mut place = 0;
     for change in changes {
         snapshot.apply(change)?;
@@ -105,6 +105,35 @@ pub struct Digests {
     pub beside: Vec<[u8; 16]>,
 }
 
+// The states of the folder before the changes and after each of them, and then those of the buffers. The splits are at
+// every n-th of the names from the first on, with the least n that leaves at most `MOST_SPLITS`.
+fn states_along(
+    alloc: Global,
+    folder: &Folder,
+    changes: &[Change],
+    from: &Checkpoints,
+    names: &[Name],
+    beside: &[&[u8]],
+) -> Result<Vec<Midstate>>
+    requires checkpoints { AreCheckpointsOf folder.now.files from.now }
+    requires applicable { IsTrue (are_applicable folder.now.files (map change_of changes.now)) }
+    ensures { let along = group_buffers End folder.now.files (map change_of changes.now) in
+        IfOk result (λ states. HaveAbsorbed states.items (along ++ buffers_of beside.now)) }
+{
+    let step = names.len().div_ceil(MOST_SPLITS).max(1);
+    let (mut split, state) = from.start(changes);
+    let mut states = vec![in alloc; state]?;
+    for name in names.iter().step_by(step) {
+        if split.comes_before(name) {
+            let next = Split::At(name);
+            states = absorbing_before(alloc, folder, changes, &states, split, next)?.finish()?;
+            split = next;
+        }
+    }
+    let absorbing = absorbing_before(alloc, folder, changes, &states, split, Split::End)?;
+    states_with(alloc, absorbing, beside)
+}
+
 /// The fingerprints of a folder before the changes and after each of them, and the MD5 digests of buffers. All are
 /// computed side by side, so that a few buffers take little more time. `from` are the checkpoints to set out from. The
 /// files before the last of them that has no changed name before it are not read. The splits are at every n-th of the
@@ -124,18 +153,7 @@ pub fn fingerprints(
 {
     let mut names: Vec<Name> = changes.iter().map(Change::first_name).collect(alloc)?;
     names.sort_unstable();
-    let step = names.len().div_ceil(MOST_SPLITS).max(1);
-    let (mut split, state) = from.start(changes);
-    let mut states = vec![in alloc; state]?;
-    for name in names.iter().step_by(step) {
-        if split.comes_before(name) {
-            let next = Split::At(name);
-            states = absorbing_before(alloc, folder, changes, &states, split, next)?.finish()?;
-            split = next;
-        }
-    }
-    let absorbing = absorbing_before(alloc, folder, changes, &states, split, Split::End)?;
-    let states = states_with(alloc, absorbing, beside)?;
+    let states = states_along(alloc, folder, changes, from, &names, beside)?;
     let mut along = digests_of(alloc, &states)?;
     let beside = along.split_off(along.len() - beside.len())?;
     Ok(Digests { along, beside })
@@ -162,9 +180,8 @@ impl Checkpoints {
     pub fn none(alloc: Global) -> Checkpoints
         ensures { (folder : defined.Folder) → AreCheckpointsOf folder result }
     {
-        Checkpoints {
-            list: Vec::new(alloc),
-        }
+        let list = Vec::new(alloc);
+        Checkpoints { list }
     }
 
     /// Adds a checkpoint at a name, after the others. `state` has absorbed the folder's files before the name.
@@ -220,16 +237,6 @@ struct Progress {
     taken: usize,
 }
 
-// The names of the checkpoints: every n-th of the folder's names from the first on, with the least n that leaves at
-// most `MOST_CHECKPOINTS`.
-fn checkpoint_names(alloc: Global, snapshot: &Snapshot) -> Result<Vec<Name>>
-    ensures { 0 < length (files_in snapshot.now) → IfOk result (λ names. 0 < length names.items) }
-{
-    let step = snapshot.files.len().div_ceil(MOST_CHECKPOINTS).max(1);
-    let checkpointed = snapshot.files.iter().step_by(step);
-    checkpointed.map(|file| file.0.copied()).collect(alloc)
-}
-
 // Absorbs the files from the split `from` to the split `to`, and in a second lane about as many bytes of the buffer, as
 // far as it has them. `IsAt`: the files before the split and the first `taken` bytes of the buffer are absorbed.
 fn advance_to<'a>(
@@ -261,7 +268,8 @@ fn advance_to<'a>(
 }
 
 /// The folder's fingerprint, the MD5 digest of a buffer that is computed beside it, and checkpoints of the folder.
-/// Opening a store calls it with the journal's bytes as the buffer. The session's next command uses the checkpoints.
+/// Opening a store calls it with the journal's bytes as the buffer. The session's next command uses the checkpoints. They
+/// are at every n-th of the folder's names from the first on, with the least n that leaves at most `MOST_CHECKPOINTS`.
 pub fn fingerprint_with_checkpoints<'a>(
     alloc: Global,
     folder: &'a Folder,
@@ -273,7 +281,7 @@ pub fn fingerprint_with_checkpoints<'a>(
     ensures some { IfOk result (λ found. HasCheckpoint folder.now.files found.checkpoints) }
 {
     let snapshot = folder.snapshot()?;
-    let names = checkpoint_names(alloc, &snapshot)?;
+    let step = snapshot.files.len().div_ceil(MOST_CHECKPOINTS).max(1);
     let mut checkpoints = Checkpoints::none(alloc);
     let mut split = Split::Beginning;
     let mut progress = Progress {
@@ -281,12 +289,15 @@ pub fn fingerprint_with_checkpoints<'a>(
         bytes: Midstate::new(),
         taken: 0,
     };
-    for name in &names {
+    let mut place = 0;
+    while place < snapshot.files.len() {
+        let name = snapshot.files[place].0;
         if split.comes_before(name) {
             progress = advance_to(alloc, &snapshot, bytes, progress, split, Split::At(name))?;
             checkpoints.mark(name, progress.folder)?;
             split = Split::At(name);
         }
+        place += step;
     }
     let mut end = advance_to(alloc, &snapshot, bytes, progress, split, Split::End)?;
     end.bytes.absorb(&[Part::Bytes(&bytes[end.taken..])]);
@@ -320,12 +331,12 @@ pub fn checkpoint_at(
     ensures some { IfOk result (λ made. HasCheckpoint folder.now.files made.checkpoints) }
     ensures beside { IfOk result (λ made. made.beside.items ≡ map md5 (buffers_of beside.now)) }
 {
-    let snapshot = folder.snapshot()?;
     // A create's first change is one of this name.
     let (split, state) = from.start(&[Change::Remove(name.copied())]);
-    let mut absorbing = Absorbing::new(alloc);
-    absorbing.push(snapshot.pending_between(alloc, state, split, Split::At(name))?)?;
-    let states = states_with(alloc, absorbing, beside)?;
+    let pending = folder
+        .snapshot()?
+        .pending_between(alloc, state, split, Split::At(name))?;
+    let states = states_with(alloc, Absorbing::with_first(alloc, pending)?, beside)?;
     let beside = digests_of(alloc, &states[1..])?;
     let mut checkpoints = Checkpoints::none(alloc);
     checkpoints.mark(name, states[0])?;

@@ -1,5 +1,5 @@
 use Rattle.par2_files.proofs.Names.{arith, ◌≡◌, ◌+◌, ◌∙◌, Bool, true, false, [], ◌∷◌, IsTrue, ap, cond, map, subst, sym, append-nil, are_applicable, change_of, bytes_before, touches, group_buffers, AreTo, HaveAbsorbed, folder_in, absorbed_here, arrived, goes_on, in_range, next_applicable, parents_then}
-use Rattle.par2_files.proofs.walk.absorbing_before.Goals.{After-is_after-in-loop-change, then-is_after, else-is_after, then-is_after-2+in_ok-pending_between-2+in_ok-push-2, else-is_after-2}
+use Rattle.par2_files.proofs.walk.absorbing_before.Goals.{After-is_after-in-loop-change, then-is_after, else-is_after, then-is_after-2+in_ok-pending_between+in_ok-push, else-is_after-2}
 use Rattle.par2_files.proofs.walk.absorbing_before.Goals as goal
 
 pub loop-change-init : goal.loop-change-init
@@ -13,7 +13,7 @@ loop-change-init c =
       applicable = subst (λ f. IsTrue (are_applicable f changes)) (sym folder) c.requires.applicable;
       parents = absorbed;
       done = bytes_before c.args.to here ∷ [];
-      reached = c.in_ok-push.ensures [] _ c.new-absorbing.ensures (c.in_ok-pending_between.ensures (absorbed_here states 0 _ _ _ absorbed));
+      reached = c.in_ok-absorbing.ensures _ (c.in_ok-first.ensures (absorbed_here states 0 _ _ _ absorbed));
       whole = ap (λ f. group_buffers c.args.to f changes) folder;
     }
 
@@ -44,10 +44,10 @@ loop-change-preserved c =
     let parents = parents_then walk.invariant c.loop-change-test.true c.change-item.is place in
     let absorbed = absorbed_here c.args.states.now c.if-is_after.place _ _ _ parents in
     elim c.if-is_after-2.branch [
-      | then-is_after-2+in_ok-pending_between-2+in_ok-push-2 w ↦
+      | then-is_after-2+in_ok-pending_between+in_ok-push w ↦
           let begun = sym c.is_after-in-loop-change.ensures ∙ w.if-is_after-2.true in
-          let reached = w.in_ok-push-2.ensures walk.invariant.done _ walk.invariant.reached (w.in_ok-pending_between-2.ensures (rw after absorbed)) in
-          rw w.absorbing-is (goes_on walk.invariant c.loop-change-test.true c.change-item.is place next after w.push-then-is_after-2.new.self true begun reached)
+          let reached = w.in_ok-push.ensures walk.invariant.done _ walk.invariant.reached (w.in_ok-pending_between.ensures (rw after absorbed)) in
+          rw w.absorbing-is (goes_on walk.invariant c.loop-change-test.true c.change-item.is place next after w.push.new.self true begun reached)
       | else-is_after-2 w ↦
           let begun = sym c.is_after-in-loop-change.ensures ∙ w.if-is_after-2.false in
           rw w.absorbing-is (goes_on walk.invariant c.loop-change-test.true c.change-item.is place next after walk.absorbing false begun (subst (AreTo walk.absorbing) (sym (append-nil walk.invariant.done)) walk.invariant.reached))

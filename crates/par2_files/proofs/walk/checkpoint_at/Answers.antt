@@ -3,10 +3,10 @@ use Rattle.par2_files.proofs.walk.checkpoint_at.Goals.{After-deref}
 use Rattle.par2_files.proofs.walk.checkpoint_at.Goals as goal
 
 -- the first state has absorbed the files before the name, and the others the buffers
-held : (c : After-deref) → HaveAbsorbed c.in_ok-states.states.items (bytes_before (At c.args.name) (folder_in c.in_ok-snapshot.snapshot) ∷ buffers_of c.args.beside.now)
+held : (c : After-deref) → HaveAbsorbed c.in_ok-states.states.items (bytes_before (At c.args.name) (folder_in c.in_ok-snapshot.field-0) ∷ buffers_of c.args.beside.now)
 held c =
     let before = subst (λ f. HasAbsorbed c.start.result.1 (bytes_before c.start.result.0 f)) (sym c.in_ok-snapshot.ensures) (c.start.ensures.states c.args.folder.now.files c.requires).0 in
-    c.in_ok-states.ensures _ (c.in_ok-push.ensures [] _ c.new-absorbing.ensures (c.in_ok-pending_between.ensures before))
+    c.in_ok-states.ensures _ (c.in_ok-with_first.ensures _ (c.in_ok-pending.ensures before))
 
 pub pending_between-requires : goal.pending_between-requires
 pending_between-requires c = further c.start.result.0 c.args.name (subst (λ name. is_before c.start.result.0 name ≡ false) c.copied.ensures (c.start.ensures.behind 0 (Remove c.copied.result) (omega arith)))
@@ -26,7 +26,7 @@ returns-clause-checkpoints c =
     let files = c.args.folder.now.files in
     let all = held (goal.at.returns-clause-checkpoints c).After-deref in
     let first = absorbed_at states _ 0 c.index.result.now all (in_range states 0 _ _ all) in
-    let state = subst (λ state. HasAbsorbed state (bytes_before (At c.args.name) (folder_in c.in_ok-snapshot.snapshot))) (sym c.index.ensures) first in
+    let state = subst (λ state. HasAbsorbed state (bytes_before (At c.args.name) (folder_in c.in_ok-snapshot.field-0))) (sym c.index.ensures) first in
     c.in_ok-mark.ensures.checkpoints files (c.none-checkpoints.ensures files) (subst (λ f. HasAbsorbed c.index.result.now (bytes_before (At c.args.name) f)) c.in_ok-snapshot.ensures state)
 
 pub returns-clause-beside : goal.returns-clause-beside
