@@ -1,5 +1,4 @@
 mod Common
 pub mod Reading
 pub mod Names
-mod Steps
 mod AnswerNames

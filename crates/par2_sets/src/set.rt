@@ -377,13 +377,11 @@ fn set_in<'a>(alloc: Global, id: [u8; 16], packets: &[Packet<'a>]) -> Result<Par
     if !are_in_profile(alloc, slice_size, &described)? {
         return Err(Fault::BadSet);
     }
-    let targets = targets_of(alloc, packets, slice_size, &described)?;
-    let recovery = recovery_of(alloc, packets, slice_size)?;
     Ok(ParSet {
         id,
         slice_size,
-        targets,
-        recovery,
+        targets: targets_of(alloc, packets, slice_size, &described)?,
+        recovery: recovery_of(alloc, packets, slice_size)?,
     })
 }
 

@@ -1,5 +1,4 @@
-use Rattle.par2_sets.proofs.AnswerNames.{◌≡◌, ◌<◌, ◌≤◌, ◌∙◌, ◌⊎◌, ◌∷◌, [], Some, inl, inr, length, sym, ap, subst, true, false, arith, Fault, Memory, is_among, numbered, aside, taken_for, target_names, long_aside, no_name, all_names, first_here, first_later, from_one, long_is_no_name, too_long, passed_on}
-use Rattle.par2_sets.proofs.Common.{IfErr}
+use Rattle.par2_sets.proofs.AnswerNames.{◌≡◌, ◌<◌, ◌≤◌, ◌∙◌, ◌∷◌, [], Some, length, sym, ap, subst, true, false, arith, NameTooLong, is_among, numbered, aside, taken_for, target_names, long_aside, no_name, all_names, first_here, first_later, from_one, long_is_no_name, too_long, err_from_is_err_and, refused_by, common_steps}
 use Rattle.par2_sets.proofs.set.aside.Goals as goal
 
 pub loop-n-preserved : goal.loop-n-preserved
@@ -19,13 +18,14 @@ returns-in_err-other-clause-refused c =
     let name = c.args.name.now in
     let n = c.loop-n.n in
     let low : n ≤ c.args.most = omega (arith, c.loop-n-test.true) in
-    let fault : Fault = c.in_err-other.field-0.0 in
-    let refused : (fault ≡ Memory) ⊎ (long_aside folder set (name ∷ []) ≡ Some fault) =
-    elim c.in_err-other.ensures.refused as (λ _. (fault ≡ Memory) ⊎ (long_aside folder set (name ∷ []) ≡ Some fault)) [
-      | inl memory ↦ inl memory
-      | inr long ↦
-          let free : is_among taken (numbered name n) ≡ false = no_name taken (numbered name n) (all_names folder set c.vacant.ensures.folder c.targets.ensures.sound) (long_is_no_name (numbered name n) long.1) in
-          let found : aside folder set name ≡ numbered name n = c.loop-n.invariant ∙ first_here taken name c.args.most n low free in
-          inr (too_long folder set name (subst (λ other. 255 < length other) (sym found) long.1) ∙ ap Some (sym long.0))
-    ] in
-    passed_on (λ r. IfErr r (λ f. (f ≡ Memory) ⊎ (long_aside folder set (name ∷ []) ≡ Some f))) _ fault c.from_residual.ensures.1 refused
+    let found : 255 < length (numbered name n) → 255 < length (aside folder set name) = λ long.
+    let free : is_among taken (numbered name n) ≡ false = no_name taken (numbered name n) (all_names folder set c.vacant.ensures.folder c.targets.ensures.sound) (long_is_no_name (numbered name n) long) in
+    subst (λ other. 255 < length other) (sym (c.loop-n.invariant ∙ first_here taken name c.args.most n low free)) long in
+    refused_by (λ y. (y ≡ NameTooLong) × (255 < length (numbered name n))) (λ y. long_aside folder set (name ∷ []) ≡ Some y) _ c.in_err-other.field-0.0 (err_from_is_err_and _ c.from_residual.ensures.1) c.in_err-other.ensures.refused
+    (λ long. too_long folder set name (found long.1) ∙ ap Some (sym long.0))
+
+pub loop-n-init : goal.loop-n-init
+loop-n-init c = from_one c.args.folder.now.files c.args.set.now c.args.name.now c.args.most c.requires.most
+
+pub unreachable-requires : goal.unreachable-requires
+unreachable-requires c = grind (arith, common_steps)

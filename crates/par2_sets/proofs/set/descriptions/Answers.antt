@@ -1,4 +1,4 @@
-use Rattle.par2_sets.proofs.AnswerNames.{◌≡◌, ◌∙◌, List, ℕ, inr, sym, ap, Some, None, map, find, filter_map, option_map, option_and_then, eq_by_cmp, bytes_eq, rules, ok_or, packet_view, Bor, DescBody, read_desc, description_of, NoDescription, slice_cmp, nat_cmp, YieldsList-from_slice, YieldsList-from_filter_map, filter_map-map, option_copied, firsts_of, found, same_id, item_at, all_some_more, all_some_none}
+use Rattle.par2_sets.proofs.AnswerNames.{◌≡◌, ◌∙◌, List, ℕ, inr, sym, ap, Some, None, map, find, filter_map, option_map, option_and_then, eq_by_cmp, bytes_eq, rules, ok_or, packet_view, Bor, DescBody, read_desc, description_of, NoDescription, slice_cmp, nat_cmp, YieldsList-from_slice, YieldsList-from_filter_map, filter_map-map, option_copied, firsts_of, found, same_id, item_at, all_some, take_all, arith, all_some_more, all_some_none}
 use Rattle.std.specs.Prelude.{Option}
 use Rattle.par2_packets.specs.declared.scan.Packet as scan
 use Rattle.par2_sets.proofs.set.descriptions.Goals.{After-and_then}
@@ -27,3 +27,6 @@ loop-k-preserved c =
     let at = item_at c.args.main.now.ids c.loop-k.k _ c.id.ensures in
     all_some_more (description_of (map packet_view c.args.packets.now)) c.args.main.now.ids c.loop-k.k c.id.result c.loop-k.descriptions.items c.in-Some.description at.0 at.1 c.loop-k.invariant (sym (described (goal.at.loop-k-preserved c).After-and_then) ∙ c.in-Some.is)
     ∙ ap Some (sym c.in_ok-push.ensures.items)
+
+pub returns : goal.returns
+returns c = ap (λ ids. ok_or (all_some (map (description_of (map packet_view c.args.packets.now)) ids)) NoDescription) (sym (take_all c.loop-k.k c.args.main.now.ids (omega arith))) ∙ ap (λ o. ok_or o NoDescription) c.loop-k.invariant

@@ -1,4 +1,4 @@
-use Rattle.par2_sets.proofs.AnswerNames.{◌≡◌, ◌∙◌, ◌⊎◌, ◌==◌, ◌&&◌, ◌++◌, ◌∷◌, [], if◌then◌else◌, Ok, Fault, DescBody, Target, List, ℕ, map, length, find, filter_map, option_map, eq_by_cmp, bytes_eq, inl, inr, sym, ap, rules, Some, Err, arith, Memory, NoChecksums, IfscBody, read_ifsc, pairs_of, target_of, all_some, packet_view, was_some, ok_or, take_all, Returns, count_cmp, YieldsList-from_slice, YieldsList-from_filter_map, filter_map-map, get, Vec, Global, Pair, slice_count, firsts_of, keyed, same_count, all_some_more, passed_on, one_missing}
+use Rattle.par2_sets.proofs.AnswerNames.{◌≡◌, ◌∙◌, ◌⊎◌, ◌==◌, ◌&&◌, ◌++◌, ◌∷◌, [], if◌then◌else◌, Ok, Fault, DescBody, Target, List, ℕ, map, length, find, filter_map, option_map, eq_by_cmp, bytes_eq, ⊎_map, sym, ap, rules, Some, Err, arith, NoChecksums, IfscBody, read_ifsc, pairs_of, target_of, all_some, packet_view, was_some, ok_or, take_all, Returns, count_cmp, YieldsList-from_slice, YieldsList-from_filter_map, filter_map-map, get, Vec, Global, Pair, slice_count, firsts_of, keyed, same_count, all_some_more, passed_on, one_missing}
 use Rattle.std.specs.Prelude.{Option}
 use Rattle.par2_packets.specs.declared.scan.Packet as scan
 use Rattle.par2_sets.specs.declared.set.Target as code
@@ -44,11 +44,10 @@ returns-in_err-pairs_for c =
     let ds = c.args.descriptions.now in
     let d = c.description-item.result in
     let fault = c.in_err-pairs_for.field-0.0 in
-    passed_on (λ r. Returns (λ (made : Vec code.Target Global). made.items) r (ok_or (all_some (map (target_of packets c.args.s) ds)) NoChecksums)) _ fault c.from_residual-in_err-pairs_for.ensures.1 (
-    elim c.in_err-pairs_for.ensures as (λ _. (fault ≡ Memory) ⊎ (ok_or (all_some (map (target_of packets c.args.s) ds)) NoChecksums ≡ Err fault)) [
-      | inl memory ↦ inl memory
-      | inr missing ↦
-          let step : ok_or (if d.length == 0 then Some [] else pairs_of packets d.id (slice_count c.args.s d.length)) NoChecksums ≡ Err fault =
-          ap (λ o. ok_or (if d.length == 0 then Some [] else o) NoChecksums) (sym (held (goal.at.returns-in_err-pairs_for c).In_ok-checksums d.id (slice_count c.args.s d.length))) ∙ missing in
-          inr (one_missing (target_of packets c.args.s) ds c.loop-description.description-index d NoChecksums fault c.loop-description-test.true c.description-item.is (no_target (with_pairs d) _ NoChecksums fault step))
-    ])
+    passed_on (λ r. Returns (λ (made : Vec code.Target Global). made.items) r (ok_or (all_some (map (target_of packets c.args.s) ds)) NoChecksums)) _ fault c.from_residual-in_err-pairs_for.ensures.1
+    (⊎_map (λ memory. memory) (λ missing. one_missing (target_of packets c.args.s) ds c.loop-description.description-index d NoChecksums fault c.loop-description-test.true c.description-item.is
+    (no_target (with_pairs d) (if d.length == 0 then Some [] else pairs_of packets d.id (slice_count c.args.s d.length)) NoChecksums fault
+    (ap (λ o. ok_or (if d.length == 0 then Some [] else o) NoChecksums) (sym (held (goal.at.returns-in_err-pairs_for c).In_ok-checksums d.id (slice_count c.args.s d.length))) ∙ missing))) c.in_err-pairs_for.ensures)
+
+pub returns : goal.returns
+returns c = ap (λ ds. ok_or (all_some (map (target_of (map packet_view c.args.packets.now) c.args.s) ds)) NoChecksums) (sym (take_all c.loop-description.description-index c.args.descriptions.now c.loop-description-test.false)) ∙ ap (λ o. ok_or o NoChecksums) c.loop-description.invariant
