@@ -21,7 +21,7 @@ pub use Rattle.md5.specs.Md5.{md5}
 pub use Rattle.par2_md5_lanes.specs.Messages.{HasAbsorbed, message_of, buffers_of}
 pub use Rattle.par2_md5_lanes.specs.declared.midstate.Midstate.{Midstate}
 pub use Rattle.par2_md5_lanes.specs.declared.tasks.Pending.{Pending}
-pub use Rattle.par2_files.specs.Checkpoints.{AbsorbsTo, AreCheckpointsOf, AreTo, HaveAbsorbed, IsFront, IsFurther, ReachEach, bytes_before, bytes_where, files_in, folder_in, comes_before, fingerprint_input, first_name, group_buffers, is_before, is_below, touches}
+pub use Rattle.par2_files.specs.Checkpoints.{AbsorbsTo, AreCheckpointsOf, AreTo, HaveAbsorbed, IsFront, IsFurther, ReachEach, bytes_before, bytes_where, files_in, folder_in, comes_before, fingerprint_input, first_name, group_buffers, is_before, is_below, touches, IsAt}
 unfoldable pub use Rattle.par2_files.specs.Checkpoints.{later_buffers}
 pub use Rattle.par2_files.specs.Folders.{AreFilesOf, AreFolderFiles, IsFile, IsFileAt, IsGapFor, IsSearched, IsSortedByName, file_at, file_of, folder_of, name_cmp, change_of}
 pub use Rattle.par2_files.specs.declared.snapshot.Split.{Split}

@@ -2,8 +2,8 @@
 //!
 //! Up to a split, two consecutive folders are equal unless the change between them touches a name there. So the
 //! folders fall into groups of neighbors that are equal there, and one MD5 state that has absorbed the files before the
-//! split serves a whole group. `fingerprints` goes from split to split by `absorbing_before`, and takes the digests of
-//! all states at the end.
+//! split serves a whole group. `states_along` goes from split to split by `absorbing_before`, and `fingerprints` takes the
+//! digests of all states at the end.
 //!
 //! Checkpoints: MD5 states within a folder's fingerprint, from which later fingerprints start.
 //! `fingerprint_with_checkpoints` records them when a folder is opened, `checkpoint_at` when a create is planned, and
@@ -106,7 +106,7 @@ pub struct Digests {
 }
 
 // The states of the folder before the changes and after each of them, and then those of the buffers. The splits are at
-// every n-th of the names from the first on, with the least n that leaves at most `MOST_SPLITS`.
+// every n-th of the names, from the first on, with the least n that leaves at most `MOST_SPLITS`.
 fn states_along(
     alloc: Global,
     folder: &Folder,
@@ -136,8 +136,8 @@ fn states_along(
 
 /// The fingerprints of a folder before the changes and after each of them, and the MD5 digests of buffers. All are
 /// computed side by side, so that a few buffers take little more time. `from` are the checkpoints to set out from. The
-/// files before the last of them that has no changed name before it are not read. The splits are at every n-th of the
-/// sorted first names that the changes touch, from the least on, with the least n that leaves at most `MOST_SPLITS`.
+/// files before the last of them that has no changed name before it are not read. The splits are at some of the first
+/// names that the changes touch, sorted: see `states_along`.
 pub fn fingerprints(
     alloc: Global,
     folder: &Folder,

@@ -405,10 +405,11 @@ pub fn set_of<'a>(alloc: Global, folder: &'a Folder, base: &Name) -> Result<Read
 {
     // For the prover: the set is sound.
     set_is_sound();
-    let first = Packets::new(folder.bytes_of(base)).next();
-    let id = first.ok_or(Fault::NoPackets)?.set_id;
-    let (packets, own_files) = packets_of(alloc, folder, base, &id)?;
-    let set = set_in(alloc, id, &packets)?;
+    let Some(first) = Packets::new(folder.bytes_of(base)).next() else {
+        return Err(Fault::NoPackets);
+    };
+    let (packets, own_files) = packets_of(alloc, folder, base, &first.set_id)?;
+    let set = set_in(alloc, first.set_id, &packets)?;
     Ok(ReadSet { set, own_files })
 }
 
@@ -440,7 +441,7 @@ fn numbered(alloc: Global, name: &Name, n: usize) -> Result<Name, Fault>
     let mut string = String::from_str(alloc, name.as_str())?;
     string.push_str(".")?;
     string.push_str(Buffer::new().format(n))?;
-    Name::new(&string).map_err(|_| Fault::NameTooLong)
+    Name::new(&string).or(Err(Fault::NameTooLong))
 }
 
 // Whether the name is in the folder or a target's, so that it can't be an aside.

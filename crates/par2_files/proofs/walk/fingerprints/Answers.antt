@@ -19,10 +19,8 @@ returns c =
     let buffers = buffers_of c.args.beside.now in
     let digests = map md5 buffers in
     let along = group_buffers End files changes in
-    let all : c.in_ok-along.along.items ≡ prints ++ digests =
-    c.in_ok-along.ensures (along ++ buffers) (rw c.deref-2.ensures.value c.in_ok-states.ensures) ∙ map-append md5 along buffers ∙ ap (λ l. l ++ digests) (all_fingerprints files changes) in
-    let place : c.len.result - length c.args.beside.now ≡ length prints =
-    omega (arith, ap length all, length-append prints digests, length-map buffers md5, length-map c.args.beside.now (λ (bytes : Bor (List ℕ)). bytes.now)) in
+    let all : c.in_ok-along.along.items ≡ prints ++ digests = c.in_ok-along.ensures (along ++ buffers) (rw c.deref-2.ensures.value c.in_ok-states.ensures) ∙ map-append md5 along buffers ∙ ap (λ l. l ++ digests) (all_fingerprints files changes) in
+    let place : c.len.result - length c.args.beside.now ≡ length prints = omega (arith, ap length all, length-append prints digests, length-map buffers md5, length-map c.args.beside.now (λ (bytes : Bor (List ℕ)). bytes.now)) in
     record {
       along = c.in_ok-beside.ensures.items ∙ (λ i. take (place i) (all i)) ∙ take-append_seam prints digests;
       beside = c.in_ok-beside.ensures.tail ∙ (λ i. drop (place i) (all i)) ∙ drop-append_seam prints digests;

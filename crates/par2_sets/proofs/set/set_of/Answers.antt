@@ -4,12 +4,12 @@ use Rattle.par2_spec.specs.Sets as sets
 use Rattle.par2_sets.proofs.set.set_of.Goals.{After-deref}
 use Rattle.par2_sets.proofs.set.set_of.Goals as goal
 
-in_step : (c : After-deref) → sets.set_of c.args.folder.now.files c.args.base.now ≡ set_from_packets c.in_ok-id.field-0.set_id (map packet_view c.deref.result.now)
+in_step : (c : After-deref) → sets.set_of c.args.folder.now.files c.args.base.now ≡ set_from_packets c.in-Some.first.set_id (map packet_view c.deref.result.now)
 in_step c =
     let files = c.args.folder.now.files in
-    let first : first_id files c.args.base.now ≡ Some c.in_ok-id.field-0.set_id = grind arith in
-    at_packets files c.args.base.now c.in_ok-id.field-0.set_id first
-    ∙ ap (set_from_packets c.in_ok-id.field-0.set_id) (sym (ap (map packet_view) c.deref.ensures.value ∙ c.in_ok-packets.ensures.packets))
+    let first : first_id files c.args.base.now ≡ Some c.in-Some.first.set_id = grind arith in
+    at_packets files c.args.base.now c.in-Some.first.set_id first
+    ∙ ap (set_from_packets c.in-Some.first.set_id) (sym (ap (map packet_view) c.deref.ensures.value ∙ c.in_ok-packets.ensures.packets))
 
 sound_if : (r : Result ParSet Fault) → ((set : ParSet) → r ≡ Ok set → IsSound set) → IfOk r IsSound
 sound_if (Ok set) law = law set refl
@@ -20,7 +20,7 @@ set_in-requires c = sound_if _ (λ set e. c.set_is_sound.ensures c.args.folder.n
 
 pub returns-in_err-set-clause-refused : goal.returns-in_err-set-clause-refused
 returns-in_err-set-clause-refused c =
-    let step : Result ParSet Fault = set_from_packets c.in_ok-id.field-0.set_id (map packet_view c.deref.result.now) in
+    let step : Result ParSet Fault = set_from_packets c.in-Some.first.set_id (map packet_view c.deref.result.now) in
     refused_by (λ y. step ≡ Err y) (λ y. sets.set_of c.args.folder.now.files c.args.base.now ≡ Err y) _ c.in_err-set.field-0.0
     (err_from_is_err_and _ c.from_residual-in_err-set.ensures.1) c.in_err-set.ensures (λ h. in_step (goal.at.returns-in_err-set-clause-refused c).After-deref ∙ h)
 
@@ -42,5 +42,5 @@ has_id id packets =
 
 pub returns-clause-own : goal.returns-clause-own
 returns-clause-own c =
-    let id = subst (λ r. IfOk r (λ set. set.id ≡ c.in_ok-id.field-0.set_id)) c.in_ok-set.ensures (has_id c.in_ok-id.field-0.set_id (map packet_view c.deref.result.now)) in
+    let id = subst (λ r. IfOk r (λ set. set.id ≡ c.in-Some.first.set_id)) c.in_ok-set.ensures (has_id c.in-Some.first.set_id (map packet_view c.deref.result.now)) in
     c.in_ok-packets.ensures.own ∙ ap (own_files c.args.folder.now.files) (sym id)
