@@ -252,11 +252,10 @@ fn advance_to<'a>(
     ensures there { IfOk result (IsAt to.entry (folder_in snapshot.now) bytes.now) }
 {
     let files = snapshot.pending_between(alloc, progress.folder, from, to)?;
-    let lent = files.parts.iter().map(|part| match part {
-        Part::Bytes(bytes) => bytes.len(),
-        _ => 0,
+    let lent = files.parts.iter().fold(0, |sum: usize, part| match part {
+        Part::Bytes(bytes) => sum.saturating_add(bytes.len()),
+        _ => sum,
     });
-    let lent = lent.fold(0, usize::saturating_add);
     let end = bytes.len().min(progress.taken.saturating_add(lent));
     let extra = pending_of_bytes(alloc, progress.bytes, &bytes[progress.taken..end])?;
     let states = absorb_each(&[files, extra]);

@@ -27,7 +27,7 @@ pub use Rattle.par2_sets.specs.SetReading.{HoldsOwned, long_aside, HasFirsts, co
 pub use Rattle.par2_spec.proofs.ListsLaws.{filter_map-map, among-append, distinct_from_std, distinct_same, same_either_way, std_from_distinct, err_again, where_none, same_name, refused_by}
 pub use Rattle.par2_spec.proofs.NameTests.{name_is_short, no_name}
 pub use Rattle.par2_spec.proofs.SearchLaws.{distinct_by_length, size_parts, was_some, all_weaker}
-pub use Rattle.par2_spec.specs.Prelude.{File, Folder, IsFolder, bytes_of, files, names, distinct, is_among, is_name, is_par_name, numbered, DescBody, IfscBody, MainBody, Packet, RecoveryBody, accepted, read_desc, read_ifsc, read_main, read_recovery, is_par_file, taken_for, IsSound, ParSet, Target, all_some, are_in_profile, description_of, is_slice_size, main_of, packets_with, pairs_of, recovery_of, target_names, target_of, ◌>>=◌, par_files, slice_count, Pair, unless}
+pub use Rattle.par2_spec.specs.Prelude.{File, Folder, IsFolder, bytes_of, files, names, distinct, is_among, is_name, is_par_name, numbered, DescBody, IfscBody, MainBody, Packet, RecoveryBody, accepted, read_desc, read_ifsc, read_main, read_recovery, is_par_file, taken_for, IsSound, ParSet, Target, all_some, are_in_profile, description_of, is_slice_size, main_of, packets_with, pairs_of, recovery_of, target_names, target_of, ◌>>=◌, par_files, slice_count, Pair, unless, fault_where}
 unfoldable pub use Rattle.par2_spec.specs.Prelude.{aside, read_set, set_of}
 pub use Rattle.par2_spec.specs.declared.Fault.{Fault}
 pub use Rattle.par2_spec.specs.declared.Fault.TheVariants.{Memory, NameTooLong, NoChecksums, NoDescription, NoPackets, NoMain, BadSet}

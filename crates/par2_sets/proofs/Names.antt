@@ -1,10 +1,8 @@
 -- Lists of distinct names.
-use Rattle.par2_sets.proofs.Common.{◌≡◌, ℕ, suc, ◌==◌, Bool, true, false, ◌||◌, cond, List, [], ◌∷◌, length, map, refl, ap, ap₂, ◌∙◌, eq-eqb, IsDistinct, distinct_count, is_member, bytes_eq, nat_list_eq_equiv, eqb-true, distinct, distinct_from_std, distinct_same, std_from_distinct, distinct_by_length, IsDistinct-from_count, distinct_count-from_IsDistinct, ◌+◌, ◌-◌, ◌^◌, ◌<◌, ◌≤◌, ◌++◌, take, sym, not, arith, inl, inr, IsTrue, Ok, Err, Result, find, IfErr, IsOk, nat_lt, unwrap_or, AllByRecursion, list_all, range_with_len, and_from, cases_lt, false_from_ne_true, false≢true, leb-true, lt-ltb, ltb-true, map_more, NameTooLong, Folder, File, IsFolder, files, names, is_among, is_name, numbered, taken_for, aside, IsSound, target_names, ParSet, name_is_short, where_none, long_aside}
+use Rattle.par2_sets.proofs.Common.{◌≡◌, ℕ, suc, ◌==◌, Bool, true, false, ◌||◌, cond, List, [], ◌∷◌, length, map, refl, ap, ap₂, ◌∙◌, eq-eqb, IsDistinct, distinct_count, is_member, bytes_eq, nat_list_eq_equiv, eqb-true, distinct, distinct_from_std, distinct_same, std_from_distinct, distinct_by_length, IsDistinct-from_count, distinct_count-from_IsDistinct, ◌+◌, ◌-◌, ◌^◌, ◌<◌, ◌≤◌, ◌++◌, take, sym, not, arith, inl, inr, IsTrue, Ok, Err, Result, find, IfErr, IsOk, nat_lt, unwrap_or, AllByRecursion, list_all, range_with_len, and_from, cases_lt, false_from_ne_true, false≢true, leb-true, lt-ltb, ltb-true, map_more, NameTooLong, Folder, File, IsFolder, files, names, is_among, is_name, numbered, taken_for, aside, IsSound, target_names, ParSet, name_is_short, where_none, long_aside, get_or, Some, None, fault_where}
 use Rattle.std.specs.Bool.{Decides}
 use Rattle.std.proofs.lemmas.Bool.Decides.{same_from_decides}
 use Rattle.std.proofs.lemmas.List.Folds.{list_all-append, list_any_more}
-use Rattle.std.specs.Prelude.{get_or, Some, None}
-use Rattle.par2_spec.specs.Prelude.{fault_where}
 use Rattle.par2_spec.proofs.AsideNames.{numbered_is_name}
 
 -- ---- keys that are compared by their names
@@ -21,16 +19,10 @@ module _ {K : Type 0} (same : K → K → Bool) (name : K → List ℕ) (by_name
 -- ---- distinct names
 
 by_count : (xs : List (List ℕ)) → Decides (distinct_count bytes_eq xs == length xs) (IsDistinct bytes_eq xs)
-by_count xs = (
-  λ h. IsDistinct-from_count nat_list_eq_equiv xs (eqb-true _ _ h),
-  λ d. eq-eqb _ _ (distinct_count-from_IsDistinct nat_list_eq_equiv xs d),
-)
+by_count xs = (λ h. IsDistinct-from_count nat_list_eq_equiv xs (eqb-true _ _ h), λ d. eq-eqb _ _ (distinct_count-from_IsDistinct nat_list_eq_equiv xs d))
 
 by_distinct : (xs : List (List ℕ)) → Decides (length (distinct xs) == length xs) (IsDistinct bytes_eq xs)
-by_distinct xs = (
-  λ h. std_from_distinct xs (distinct_by_length xs (eqb-true _ _ h)),
-  λ d. eq-eqb _ _ (ap length (distinct_same xs (distinct_from_std xs d))),
-)
+by_distinct xs = (λ h. std_from_distinct xs (distinct_by_length xs (eqb-true _ _ h)), λ d. eq-eqb _ _ (ap length (distinct_same xs (distinct_from_std xs d))))
 
 -- there are as many keys as names if and only if the names are distinct
 pub counted : (xs : List (List ℕ)) → (distinct_count bytes_eq xs == length xs) ≡ (length (distinct xs) == length xs)
@@ -79,8 +71,7 @@ module _ (taken : List (List ℕ)) (name : List ℕ) (most n : ℕ) (low : n ≤
   -- a number that is taken is skipped
   pub first_later : is_among taken (numbered name n) ≡ true → first_from taken name most n ≡ first_from taken name most (n + 1)
   first_later full =
-      one_more true full
-      ∙ ap (λ k. unwrap_or (find (λ other. not (is_among taken other)) (map (numbered name) (range_with_len (n + 1) k))) [])
+      one_more true full ∙ ap (λ k. unwrap_or (find (λ other. not (is_among taken other)) (map (numbered name) (range_with_len (n + 1) k))) [])
       (let e : most - n ≡ most + 1 - (n + 1) = omega (arith, low) in e)
 
 -- ---- refusals
@@ -121,6 +112,5 @@ module _ (folder : Folder) (set : ParSet) (names : List (List ℕ)) (i : ℕ) (n
   pub one_more_short : IsTrue (is_name other) → long_aside folder set (take i names) ≡ None → long_aside folder set (take (i + 1) names) ≡ None
   one_more_short good before =
       let test : List ℕ → Bool = λ x. nat_lt 255 (length (aside folder set x)) in
-      let short : test (get_or names i name) ≡ false =
-      ap test (sym is) ∙ ap (λ x. nat_lt 255 (length x)) (sym named) ∙ no_longer other good in
+      let short : test (get_or names i name) ≡ false = ap test (sym is) ∙ ap (λ x. nat_lt 255 (length x)) (sym named) ∙ no_longer other good in
       ap (λ b. fault_where b NameTooLong) (list_any_more test names i name low ∙ ap (λ b. b || test (get_or names i name)) (where_none _ _ before) ∙ short)

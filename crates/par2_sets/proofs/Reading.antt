@@ -4,8 +4,7 @@ use Rattle.std.specs.FinMap as map_of
 
 all_some-push : {A : Type 0} (items : List (Option A)) (last : Option A)
     → all_some (items ++ last ∷ []) ≡ option_and_then (λ xs. option_map (λ x. xs ++ x ∷ []) last) (all_some items)
-all_some-push [] None = refl
-all_some-push [] (Some x) = refl
+all_some-push [] last = grind arith
 all_some-push (None ∷ items) last = refl
 all_some-push (Some a ∷ items) last = grind (arith, all_some-push items last)
 

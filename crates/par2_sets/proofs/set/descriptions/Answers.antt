@@ -1,5 +1,4 @@
-use Rattle.par2_sets.proofs.AnswerNames.{◌≡◌, ◌∙◌, List, ℕ, inr, sym, ap, Some, None, map, find, filter_map, option_map, option_and_then, eq_by_cmp, bytes_eq, rules, ok_or, packet_view, Bor, DescBody, read_desc, description_of, NoDescription, slice_cmp, nat_cmp, YieldsList-from_slice, YieldsList-from_filter_map, filter_map-map, option_copied, firsts_of, found, same_id, item_at, all_some, take_all, arith, all_some_more, all_some_none}
-use Rattle.std.specs.Prelude.{Option}
+use Rattle.par2_sets.proofs.AnswerNames.{◌≡◌, ◌∙◌, List, ℕ, inr, sym, ap, Some, None, map, find, filter_map, option_map, option_and_then, eq_by_cmp, bytes_eq, rules, ok_or, packet_view, Bor, DescBody, read_desc, description_of, NoDescription, slice_cmp, nat_cmp, YieldsList-from_slice, YieldsList-from_filter_map, filter_map-map, option_copied, firsts_of, found, same_id, item_at, all_some, take_all, arith, all_some_more, all_some_none, Option}
 use Rattle.par2_packets.specs.declared.scan.Packet as scan
 use Rattle.par2_sets.proofs.set.descriptions.Goals.{After-and_then}
 use Rattle.par2_sets.proofs.set.descriptions.Goals as goal

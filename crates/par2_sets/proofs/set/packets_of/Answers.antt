@@ -29,16 +29,12 @@ loop-name-preserved c =
     ] in
     (packets, files)
 
-pub returns-clause-packets : goal.returns-clause-packets
-returns-clause-packets c =
+pub returns : goal.returns
+returns c =
     let base = c.args.base.now in
     let all = take_all c.loop-name.name-index c.deref-name-items.result.now c.loop-name-test.false ∙ c.deref-name-items.ensures.value
     ∙ filter_same _ is_par_name _ (λ x b f k. search rules) _ _ c.retain.ensures.filtered ∙ ap (filter is_par_name) c.in_ok-names.ensures in
-    c.loop-name.invariant.0
-    ∙ ap (λ ns. packets_in c.args.folder.now.files base ns c.args.id.now) (ap (filter (λ n. not (bytes_eq n base))) all ∙ others_are base (names c.args.folder.now.files))
-
-pub returns-clause-own : goal.returns-clause-own
-returns-clause-own c =
-    let all = take_all c.loop-name.name-index c.deref-name-items.result.now c.loop-name-test.false ∙ c.deref-name-items.ensures.value
-    ∙ filter_same _ is_par_name _ (λ x b f k. search rules) _ _ c.retain.ensures.filtered ∙ ap (filter is_par_name) c.in_ok-names.ensures in
-    c.loop-name.invariant.1 ∙ ap (filter (has_own c.args.folder.now.files c.args.id.now)) all
+    record {
+      packets = c.loop-name.invariant.0 ∙ ap (λ ns. packets_in c.args.folder.now.files base ns c.args.id.now) (ap (filter (λ n. not (bytes_eq n base))) all ∙ others_are base (names c.args.folder.now.files));
+      own = c.loop-name.invariant.1 ∙ ap (filter (has_own c.args.folder.now.files c.args.id.now)) all;
+    }

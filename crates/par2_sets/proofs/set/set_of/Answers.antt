@@ -1,4 +1,4 @@
-use Rattle.par2_sets.proofs.AnswerNames.{◌≡◌, ◌∙◌, ℕ, List, err_from_is_err_and, own_files, ok_or, main_of, is_slice_size, all_some, description_of, are_in_profile, target_of, NoDescription, NoChecksums, ◌>>=◌, map, Some, Ok, Err, Result, IfOk, refl, sym, ap, subst, arith, Fault, ParSet, IsSound, packet_view, set_from_packets, refused_by, unless, NoMain, BadSet, at_packets, first_id}
+use Rattle.par2_sets.proofs.AnswerNames.{rules, ◌≡◌, ◌∙◌, ℕ, List, err_from_is_err_and, own_files, ok_or, main_of, is_slice_size, all_some, description_of, are_in_profile, target_of, NoDescription, NoChecksums, ◌>>=◌, map, Some, Ok, Err, Result, IfOk, refl, sym, ap, subst, arith, Fault, ParSet, IsSound, packet_view, set_from_packets, refused_by, unless, NoMain, BadSet, at_packets, first_id}
 use Rattle.par2_sets.proofs.Common.{Packet}
 use Rattle.par2_spec.specs.Sets as sets
 use Rattle.par2_sets.proofs.set.set_of.Goals.{After-deref}
@@ -44,3 +44,7 @@ pub returns-clause-own : goal.returns-clause-own
 returns-clause-own c =
     let id = subst (λ r. IfOk r (λ set. set.id ≡ c.in-Some.first.set_id)) c.in_ok-set.ensures (has_id c.in-Some.first.set_id (map packet_view c.deref.result.now)) in
     c.in_ok-packets.ensures.own ∙ ap (own_files c.args.folder.now.files) (sym id)
+
+pub returns-in_default-clause-refused : goal.returns-in_default-clause-refused
+unfolding sets.set_of
+returns-in_default-clause-refused c = search rules

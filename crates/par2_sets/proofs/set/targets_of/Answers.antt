@@ -1,5 +1,4 @@
-use Rattle.par2_sets.proofs.AnswerNames.{◌≡◌, ◌∙◌, ◌⊎◌, ◌==◌, ◌&&◌, ◌++◌, ◌∷◌, [], if◌then◌else◌, Ok, Fault, DescBody, Target, List, ℕ, map, length, find, filter_map, option_map, eq_by_cmp, bytes_eq, ⊎_map, sym, ap, rules, Some, Err, arith, NoChecksums, IfscBody, read_ifsc, pairs_of, target_of, all_some, packet_view, was_some, ok_or, take_all, Returns, count_cmp, YieldsList-from_slice, YieldsList-from_filter_map, filter_map-map, get, Vec, Global, Pair, slice_count, firsts_of, keyed, same_count, all_some_more, passed_on, one_missing}
-use Rattle.std.specs.Prelude.{Option}
+use Rattle.par2_sets.proofs.AnswerNames.{◌≡◌, ◌∙◌, ◌⊎◌, ◌==◌, ◌&&◌, ◌++◌, ◌∷◌, [], if◌then◌else◌, Ok, Fault, DescBody, Target, List, ℕ, map, length, find, filter_map, option_map, eq_by_cmp, bytes_eq, ⊎_map, sym, ap, rules, Some, Err, arith, NoChecksums, IfscBody, read_ifsc, pairs_of, target_of, all_some, packet_view, was_some, ok_or, take_all, Returns, count_cmp, YieldsList-from_slice, YieldsList-from_filter_map, filter_map-map, get, Vec, Global, Pair, slice_count, firsts_of, keyed, same_count, all_some_more, passed_on, one_missing, common_steps, Option}
 use Rattle.par2_packets.specs.declared.scan.Packet as scan
 use Rattle.par2_sets.specs.declared.set.Target as code
 use Rattle.par2_sets.proofs.set.targets_of.Goals.{In_ok-checksums}
@@ -51,3 +50,6 @@ returns-in_err-pairs_for c =
 
 pub returns : goal.returns
 returns c = ap (λ ds. ok_or (all_some (map (target_of (map packet_view c.args.packets.now) c.args.s) ds)) NoChecksums) (sym (take_all c.loop-description.description-index c.args.descriptions.now c.loop-description-test.false)) ∙ ap (λ o. ok_or o NoChecksums) c.loop-description.invariant
+
+pub unreachable-requires : goal.unreachable-requires
+unreachable-requires c = grind (arith, common_steps)
