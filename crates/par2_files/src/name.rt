@@ -49,7 +49,6 @@ pub fn is_reserved(bytes: &[u8]) -> bool
 }
 
 // Whether the string is a name.
-#[tactic(auto, using(crate::proofs::Lists::name_parts))]
 fn is_name(string: &str) -> bool
     ensures name { result ≡ is_name string.now }
     ensures fits { IsTrue result → length string.now ≤ 255 }

@@ -10,8 +10,7 @@ returns-clause-some c = λ files.
     c.loop-place.invariant.behind (omega (arith, some, length-map c.in_ok-snapshot.snapshot.files.items file_of, c.loop-place-test.false))
 
 pub returns-clause-fingerprint : goal.returns-clause-fingerprint
-returns-clause-fingerprint c =
-    c.digest.ensures _ c.in_ok-end.ensures.there.absorbed ∙ fingerprint_is (folder_in c.in_ok-snapshot.snapshot) ∙ ap fingerprint c.in_ok-snapshot.ensures
+returns-clause-fingerprint c = c.digest.ensures _ c.in_ok-end.ensures.there.absorbed ∙ fingerprint_is (folder_in c.in_ok-snapshot.snapshot) ∙ ap fingerprint c.in_ok-snapshot.ensures
 
 pub returns-clause-digest : goal.returns-clause-digest
 returns-clause-digest c =
