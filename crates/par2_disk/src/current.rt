@@ -19,7 +19,7 @@ ghost use Rattle.par2_disk.specs.Stores.{CountsFailures};
 use crate::disk::{Directory, Entry, Found, Location};
 use crate::{Count, ReadFault, StoreFault};
 use par2_files::{BadName, Name, is_reserved};
-use std::alloc::{AllocError, Global};
+use std::alloc::{AllocError, AllocFailed, Global};
 use std::fs::{DirEntry, File, FileType, Files, Metadata, OpenFile, TryLockError};
 use std::io::{Error, ErrorKind, Read, Write};
 use std::os::unix::fs::{MetadataExt, OpenOptionsExt, PermissionsExt};
@@ -331,9 +331,8 @@ fn names_listed<I: Iterator<Item = io::Result<E>> + Drop, E: Entry + Drop>(
     let mut names = Vec::new(alloc);
     for item in listing {
         if let Some(name) = name_in(item)? {
-            if names.push(name).is_err() {
-                return Err(ReadFault::Memory);
-            }
+            let pushed = names.push(name);
+            pushed.map_err(|_: AllocFailed<Name>| ReadFault::Memory)?;
         }
     }
     names.sort_unstable();

@@ -15,7 +15,7 @@ use crate::{HalfwayPart, Journal};
 use md5::{Digest, Md5};
 use par2_files::{Bytes, Change, Changes, Name};
 use par2_spec::{JournalFault, Version};
-use std::alloc::Global;
+use std::alloc::{AllocFailed, Global};
 
 // A part from the front, and the bytes after it.
 type Read<'a, T> = Result<(T, &'a [u8]), JournalFault>;
@@ -136,9 +136,8 @@ fn read_entries(alloc: Global, count: u64, bytes: &[u8]) -> Read<'_, Vec<Changes
     let mut rest = bytes;
     for _ in 0..count {
         let (entry, behind) = read_entry(alloc, rest)?;
-        if entries.push(entry).is_err() {
-            return Err(JournalFault::Memory);
-        }
+        let pushed = entries.push(entry);
+        pushed.map_err(|_: AllocFailed<Changes>| JournalFault::Memory)?;
         rest = behind;
     }
     Ok((entries, rest))
@@ -152,9 +151,8 @@ fn read_digests(alloc: Global, count: u64, bytes: &[u8]) -> Read<'_, Vec<[u8; 16
     let mut rest = bytes;
     for _ in 0..count {
         let (digest, behind) = read_digest(rest)?;
-        if digests.push(digest).is_err() {
-            return Err(JournalFault::Memory);
-        }
+        let pushed = digests.push(digest);
+        pushed.map_err(|_: AllocFailed<[u8; 16]>| JournalFault::Memory)?;
         rest = behind;
     }
     Ok((digests, rest))

@@ -8,7 +8,7 @@ returns-in_err-digest c =
 
 pub loop-preserved : goal.loop-preserved
 loop-preserved c =
-    let items : c.push.new.self.items ≡ c.loop.digests.items ++ c.in_ok-digest.digest ∷ [] = grind (arith, c.push.ensures.items, c.is_err.ensures, c.if-is_err.false) in
+    let items : c.push-pushed.new.self.items ≡ c.loop.digests.items ++ c.in_ok-digest.digest ∷ [] = grind (arith, c.push-pushed.ensures.items, c.map_err.ensures.cases, c.in_ok-map_err.was) in
     rw items (goes_on (block_at 16) c.args.count c.args.bytes.now c.loop.digests.items c.loop.counter c.loop.rest.now c.in_ok-digest.digest c.in_ok-digest.behind.now c.loop-test.true c.in_ok-digest.ensures c.loop.invariant)
 
 pub returns : goal.returns
