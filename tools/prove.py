@@ -23,8 +23,9 @@ import time
 import page
 import rt_module
 
-# The most processes that share a proof, what sharing costs, and the part that can't be shared.
-SHARERS, SHARING, ALONE = 4, 1.25, 0.2
+# The most processes that share a proof, what sharing costs, and the part that can't be shared; and how much longer several
+# processors take than the least time, because crates wait for each other.
+SHARERS, SHARING, ALONE, WAITING = 4, 1.25, 0.2, 1.3
 ANEW = ["--anew"] if os.environ.get("PROVE_ANEW") == "1" else []
 TOP = os.path.join(os.path.dirname(os.path.realpath(__file__)), "..")
 PROVED = re.compile(r"rt: (\w+) proved$")
@@ -94,11 +95,12 @@ class Clock:
         self.planned = self.least()
 
     def least(self):
-        """Returns the least seconds until nothing is left: those of the work or of the longest chain."""
+        """Returns about the seconds until nothing is left: those of the work or of the longest chain, and of waiting."""
         chains = {}
         for name in self.seconds:
             chains[name] = self.seconds[name] + max((chains[it] for it in self.below[name] if it in chains), default=0)
-        return max(sum(self.seconds.values()) / self.processors, self.shared * max(chains.values(), default=0))
+        least = max(sum(self.seconds.values()) / self.processors, self.shared * max(chains.values(), default=0))
+        return least * (WAITING if self.processors > 1 else 1)
 
     def ends(self, name):
         self.seconds.pop(name, None)
