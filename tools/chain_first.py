@@ -42,6 +42,7 @@ def next_one(tasks, chains, begun, running, memory):
     first = max(ready, key=chains.get)
     taken = sum(shared for it, shared in running.items() if chains[it] >= MINOR * chains[first])
     free = processors() + CROWD - taken
+    # (processes that share a proof share most of its memory, and take less than the gate plans for one)
     room = memory - sum(tasks[it][2] for it in running)
     if running and (free < 1 or tasks[first][2] > room):
         return None

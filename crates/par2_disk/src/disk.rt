@@ -387,7 +387,7 @@ impl<D: Directory> DiskStore<D> {
     }
 }
 
-// The changes, each made while the directory is held alone. `CanMake`: one can be made, and nothing bars it.
+// The changes, each made while the directory is held alone. Only their proofs unfold what a change does.
 #[tactic(auto, unfolding(par2_spec::specs::Changes::is_applicable, par2_spec::specs::Changes::effect))]
 impl<D: Directory> DiskStore<D> {
     // Writes a file under a name that nothing has. If another file gets the name meanwhile, it isn't overwritten.
