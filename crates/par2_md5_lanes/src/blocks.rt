@@ -353,20 +353,50 @@ fn sums<V: Lanes>(state: HashState<V>, after: HashState<V>) -> HashState<V>
     HashState { a, b, c, d }
 }
 
-// The 64 steps of a block, four at a time.
-macro_rules! all_steps {
-    ($state:ident, $words:ident, $($t:literal)*) => {{
-        $(let $state = four_steps($state, $words, $t);)*
+// The steps of a block from step `$from` on, four at a time.
+macro_rules! steps_from {
+    ($from:ident, $state:ident, $words:ident, $($t:literal)*) => {{
+        $(let $state = four_steps($state, $words, $from + $t);)*
         $state
     }};
 }
 
-// The 64 steps of two groups, which alternate every four steps.
-macro_rules! all_steps_of_both {
-    ($a:ident, $a_words:ident, $b:ident, $b_words:ident, $($t:literal)*) => {{
-        $(let ($a, $b) = (four_steps($a, $a_words, $t), four_steps($b, $b_words, $t));)*
+// The steps of two groups from step `$from` on, which alternate every four steps.
+macro_rules! steps_of_both_from {
+    ($from:ident, $a:ident, $a_words:ident, $b:ident, $b_words:ident, $($t:literal)*) => {{
+        $(
+            let $a = four_steps($a, $a_words, $from + $t);
+            let $b = four_steps($b, $b_words, $from + $t);
+        )*
         ($a, $b)
     }};
+}
+
+// Half of a block's steps are a function of their own, because LLVM takes ten times as long for twice the steps. It inlines
+// such a function afterwards, since it is called once.
+
+// The 32 steps of a block from step `FROM` on.
+fn half_block<V: Lanes, const FROM: usize>(state: HashState<V>, words: &Words<V>) -> HashState<V>
+    requires { FROM ≤ 32 }
+    ensures { Advances V.count V.at words.now FROM state (FROM + 32) result }
+{
+    steps_from!(FROM, state, words, 0 4 8 12 16 20 24 28)
+}
+
+// The 32 steps of two groups from step `FROM` on. The groups alternate every four steps: a group's variables then mostly
+// stay in registers, even where there are few, and the steps of the other group are close enough to be executed out of
+// order.
+fn half_block_of_both<V: Lanes, const FROM: usize>(
+    low: HashState<V>,
+    low_words: &Words<V>,
+    high: HashState<V>,
+    high_words: &Words<V>,
+) -> (HashState<V>, HashState<V>)
+    requires { FROM ≤ 32 }
+    ensures low { Advances V.count V.at low_words.now FROM low (FROM + 32) result.0 }
+    ensures high { Advances V.count V.at high_words.now FROM high (FROM + 32) result.1 }
+{
+    steps_of_both_from!(FROM, low, low_words, high, high_words, 0 4 8 12 16 20 24 28)
 }
 
 /// The hash values after one more block of each message, which has these words.
@@ -374,14 +404,12 @@ macro_rules! all_steps_of_both {
 pub(crate) fn compressed<V: Lanes>(state: HashState<V>, words: &Words<V>) -> HashState<V>
     ensures { HaveHashesAfter V.count V.at state words.now result }
 {
-    let after = state;
-    let after = all_steps!(after, words, 0 4 8 12 16 20 24 28 32 36 40 44 48 52 56 60);
+    let after = half_block::<V, 0>(state, words);
+    let after = half_block::<V, 32>(after, words);
     sums(state, after)
 }
 
 /// The hash values of two groups after one more block. Their steps alternate.
-// The groups alternate every four steps: a group's variables then mostly stay in registers, even where there are few,
-// and the steps of the other group are close enough to be executed out of order.
 #[inline(always)]
 pub(crate) fn both_compressed<V: Lanes>(
     low: HashState<V>,
@@ -392,10 +420,8 @@ pub(crate) fn both_compressed<V: Lanes>(
     ensures low { HaveHashesAfter V.count V.at low low_words.now result.0 }
     ensures high { HaveHashesAfter V.count V.at high high_words.now result.1 }
 {
-    let (a, b) = (low, high);
-    let (a, b) = all_steps_of_both!(
-        a, low_words, b, high_words, 0 4 8 12 16 20 24 28 32 36 40 44 48 52 56 60
-    );
+    let (a, b) = half_block_of_both::<V, 0>(low, low_words, high, high_words);
+    let (a, b) = half_block_of_both::<V, 32>(a, low_words, b, high_words);
     (sums(low, a), sums(high, b))
 }
 
