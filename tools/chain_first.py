@@ -5,21 +5,18 @@ usage: chain_first.py [--anew]     prove all, and take nothing of what an earlie
 
 The gate's own order fits many proofs, tests and edits: a proof gets one process while others wait, and keeps it. Where only
 libraries are proved, the last ones of the longest chain would run alone. So the crate for which the longest chain waits, by
-tools/seconds.txt, begins first, with several processes, and those that are free are shared evenly by the crates that can
-begin. Sharing costs processor time, so little more processes run than there are processors.
+tools/seconds.txt, begins first. If no crate that runs has a longer one, several processes share its proof. Sharing
+costs two thirds more processor time, so each other crate gets one process, and as many crates as processors run at a time.
+
+The gate also searches each proved library for contracts that no call can meet. `make test` does so, and a build needn't.
 """
-import math
+import hashlib
+import os
 import sys
 from concurrent.futures import FIRST_COMPLETED, ThreadPoolExecutor, wait
 
 import rt_module
 from prove import SHARERS, processors, seconds_of_crates
-
-# The least processes of the crate for which the longest chain waits.
-URGENT = 2
-# How many more processes than processors run at a time, since a proof begins and ends with a single one; and how long a
-# crate's chain is, as a part of another's, where its processes don't keep that one waiting.
-CROWD, MINOR = 1, 0.7
 
 
 def chains_of(tasks):
@@ -35,19 +32,17 @@ def chains_of(tasks):
 
 
 def next_one(tasks, chains, begun, running, memory):
-    """Returns the task that begins now and how many processes share it, or None. `running` has those of each that runs."""
+    """Returns the task that begins now and how many processes share it, or None."""
     ready = [it for it in tasks if it not in begun and all(below in begun and below not in running for below in tasks[it][0])]
     if not ready:
         return None
     first = max(ready, key=chains.get)
-    taken = sum(shared for it, shared in running.items() if chains[it] >= MINOR * chains[first])
-    free = processors() + CROWD - taken
     # (processes that share a proof share most of its memory, and take less than the gate plans for one)
     room = memory - sum(tasks[it][2] for it in running)
-    if running and (free < 1 or tasks[first][2] > room):
+    if running and (len(running) >= processors() or tasks[first][2] > room):
         return None
     is_urgent = chains[first] == max(chains[it] for it in [*ready, *running])
-    return first, min(max(math.ceil(free / len(ready)), URGENT if is_urgent else 1), SHARERS)
+    return first, min(SHARERS, processors()) if is_urgent else 1
 
 
 def in_lanes(memory):
@@ -56,25 +51,41 @@ def in_lanes(memory):
     processes share it."""
 
     def lanes(tasks):
-        chains, begun, running, given, futures = chains_of(tasks), set(), {}, {}, {}
+        chains, begun, running, given, futures = chains_of(tasks), set(), set(), {}, {}
         with ThreadPoolExecutor(len(tasks)) as pool:
             while len(given) < len(tasks):
                 while begins := next_one(tasks, chains, begun, running, memory):
                     it, shared = begins
                     begun.add(it)
-                    running[it] = shared
+                    running.add(it)
                     futures[pool.submit(tasks[it][3], dict(given), shared)] = it
                 for ended in wait(futures, return_when=FIRST_COMPLETED).done:
                     it = futures.pop(ended)
-                    del running[it]
+                    running.remove(it)
                     given[it] = ended.result()
         return given
 
     return lanes
 
 
+def leave_out_empty_contracts(rt):
+    """Leaves out the search for contracts that no call can meet. What was proved without it is kept under a key of its own,
+    so that the gate doesn't take it."""
+    help_of, key = rt.rtlib.help_of, rt.Kept.key
+
+    def own_key(kept, crate):
+        gates = key(kept, crate)
+        is_kept = os.path.isdir(kept.place(crate, False, gates))
+        return gates if is_kept else hashlib.sha256(f"built {gates}".encode()).hexdigest()
+
+    rt.rtlib.help_of = lambda command: help_of(command).replace("--empty-contracts", "")
+    rt.Kept.key = own_key
+
+
 if __name__ == "__main__":
     rt = rt_module.loaded()
     if hasattr(rt, "in_lanes"):
         rt.in_lanes = in_lanes(0.85 * rt.free())
+    if hasattr(rt, "Kept") and hasattr(rt.rtlib, "help_of"):
+        leave_out_empty_contracts(rt)
     sys.exit(rt.main(["ci", *sys.argv[1:]]))
