@@ -28,7 +28,7 @@ import rt_module
 SHARERS, SHARING, ALONE, WAITING = 4, 1.65, 0.2, 1.4
 ANEW = ["--anew"] if os.environ.get("PROVE_ANEW") == "1" else []
 TOP = os.path.join(os.path.dirname(os.path.realpath(__file__)), "..")
-PROVED = re.compile(r"rt: (\w+) proved$")
+PROVED = re.compile(r"rt: (\w+) (?:proved$|is kept: )")
 
 
 def seconds_of_crates():
