@@ -28,7 +28,7 @@ import rt_module
 SHARERS, SHARING, ALONE, WAITING = 4, 1.65, 0.2, 1.4
 ANEW = ["--anew"] if os.environ.get("PROVE_ANEW") == "1" else []
 TOP = os.path.join(os.path.dirname(os.path.realpath(__file__)), "..")
-PROVED = re.compile(r"rt: (\w+) (?:proved$|is kept: )")
+PROVED = re.compile(r"rt: (\w+) (proved$|is kept: )")
 
 
 def seconds_of_crates():
@@ -81,7 +81,7 @@ def about(seconds):
 def first_build():
     """Returns the lines of README on a first build."""
     four, one = (Clock(wanted("par2", lines_of_crates()[1]), processors).planned for processors in (4, 1))
-    yield f"It takes {about(four)} on four processors of a slow machine, {one / 60:.0f} on one."
+    yield f"By the times of single crates it takes {about(four)} on four processors of a slow machine, {one / 60:.0f} on one."
 
 
 class Clock:
@@ -102,8 +102,12 @@ class Clock:
         least = max(sum(self.seconds.values()) / self.processors, self.shared * max(chains.values(), default=0))
         return least * (WAITING if self.processors > 1 else 1)
 
-    def ends(self, name):
+    def ends(self, name, is_kept):
+        """Notes that a crate is proved. One that was kept says nothing of how fast the run is."""
+        before = self.least()
         self.seconds.pop(name, None)
+        if is_kept:
+            self.planned -= before - self.least()
 
     def words(self):
         """Says how many crates are left and about how long they take."""
@@ -129,7 +133,7 @@ def gate(folder, clock):
         for line in ran.stdout:
             said.append(line)
             if proved := PROVED.match(line):
-                clock.ends(proved[1])
+                clock.ends(proved[1], proved[2] != "proved")
                 print(f"  {proved[1]} is proved{f'; {clock.words()}' if clock.seconds else ''}", flush=True)
     if ran.returncode:
         sys.exit(what_failed("".join(said)))

@@ -372,7 +372,7 @@ macro_rules! steps_of_both_from {
     }};
 }
 
-// Half of a block's steps are a function of their own, because LLVM takes ten times as long for twice the steps. It inlines
+// Half of a block's steps are a function of their own, because LLVM takes five times as long for twice the steps. It inlines
 // such a function afterwards, since it is called once.
 
 // The 32 steps of a block from step `FROM` on.
