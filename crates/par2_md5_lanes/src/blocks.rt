@@ -353,50 +353,40 @@ fn sums<V: Lanes>(state: HashState<V>, after: HashState<V>) -> HashState<V>
     HashState { a, b, c, d }
 }
 
-// The steps of a block from step `$from` on, four at a time.
-macro_rules! steps_from {
-    ($from:ident, $state:ident, $words:ident, $($t:literal)*) => {{
-        $(let $state = four_steps($state, $words, $from + $t);)*
-        $state
-    }};
-}
+// A round is a function of its own, because LLVM takes five times as long for twice the steps. It inlines such a function
+// afterwards, since it is called once.
 
-// The steps of two groups from step `$from` on, which alternate every four steps.
-macro_rules! steps_of_both_from {
-    ($from:ident, $a:ident, $a_words:ident, $b:ident, $b_words:ident, $($t:literal)*) => {{
-        $(
-            let $a = four_steps($a, $a_words, $from + $t);
-            let $b = four_steps($b, $b_words, $from + $t);
-        )*
-        ($a, $b)
-    }};
-}
-
-// Half of a block's steps are a function of their own, because LLVM takes five times as long for twice the steps. It inlines
-// such a function afterwards, since it is called once.
-
-// The 32 steps of a block from step `FROM` on.
-fn half_block<V: Lanes, const FROM: usize>(state: HashState<V>, words: &Words<V>) -> HashState<V>
-    requires { FROM ≤ 32 }
-    ensures { Advances V.count V.at words.now FROM state (FROM + 32) result }
+// The sixteen steps of a round (RFC 1321, 3.4), from step `FROM` on.
+fn one_round<V: Lanes, const FROM: usize>(state: HashState<V>, words: &Words<V>) -> HashState<V>
+    requires { FROM ≤ 48 }
+    ensures { Advances V.count V.at words.now FROM state (FROM + 16) result }
 {
-    steps_from!(FROM, state, words, 0 4 8 12 16 20 24 28)
+    let state = four_steps(state, words, FROM);
+    let state = four_steps(state, words, FROM + 4);
+    let state = four_steps(state, words, FROM + 8);
+    four_steps(state, words, FROM + 12)
 }
 
-// The 32 steps of two groups from step `FROM` on. The groups alternate every four steps: a group's variables then mostly
-// stay in registers, even where there are few, and the steps of the other group are close enough to be executed out of
-// order.
-fn half_block_of_both<V: Lanes, const FROM: usize>(
+// The sixteen steps of a round for two groups, which alternate every four steps: a group's variables then mostly stay in
+// registers, even where there are few, and the steps of the other group are close enough to be executed out of order.
+fn one_round_of_both<V: Lanes, const FROM: usize>(
     low: HashState<V>,
     low_words: &Words<V>,
     high: HashState<V>,
     high_words: &Words<V>,
 ) -> (HashState<V>, HashState<V>)
-    requires { FROM ≤ 32 }
-    ensures low { Advances V.count V.at low_words.now FROM low (FROM + 32) result.0 }
-    ensures high { Advances V.count V.at high_words.now FROM high (FROM + 32) result.1 }
+    requires { FROM ≤ 48 }
+    ensures low { Advances V.count V.at low_words.now FROM low (FROM + 16) result.0 }
+    ensures high { Advances V.count V.at high_words.now FROM high (FROM + 16) result.1 }
 {
-    steps_of_both_from!(FROM, low, low_words, high, high_words, 0 4 8 12 16 20 24 28)
+    let low = four_steps(low, low_words, FROM);
+    let high = four_steps(high, high_words, FROM);
+    let low = four_steps(low, low_words, FROM + 4);
+    let high = four_steps(high, high_words, FROM + 4);
+    let low = four_steps(low, low_words, FROM + 8);
+    let high = four_steps(high, high_words, FROM + 8);
+    let low = four_steps(low, low_words, FROM + 12);
+    (low, four_steps(high, high_words, FROM + 12))
 }
 
 /// The hash values after one more block of each message, which has these words.
@@ -404,8 +394,10 @@ fn half_block_of_both<V: Lanes, const FROM: usize>(
 pub(crate) fn compressed<V: Lanes>(state: HashState<V>, words: &Words<V>) -> HashState<V>
     ensures { HaveHashesAfter V.count V.at state words.now result }
 {
-    let after = half_block::<V, 0>(state, words);
-    let after = half_block::<V, 32>(after, words);
+    let after = one_round::<V, 0>(state, words);
+    let after = one_round::<V, 16>(after, words);
+    let after = one_round::<V, 32>(after, words);
+    let after = one_round::<V, 48>(after, words);
     sums(state, after)
 }
 
@@ -420,8 +412,10 @@ pub(crate) fn both_compressed<V: Lanes>(
     ensures low { HaveHashesAfter V.count V.at low low_words.now result.0 }
     ensures high { HaveHashesAfter V.count V.at high high_words.now result.1 }
 {
-    let (a, b) = half_block_of_both::<V, 0>(low, low_words, high, high_words);
-    let (a, b) = half_block_of_both::<V, 32>(a, low_words, b, high_words);
+    let (a, b) = one_round_of_both::<V, 0>(low, low_words, high, high_words);
+    let (a, b) = one_round_of_both::<V, 16>(a, low_words, b, high_words);
+    let (a, b) = one_round_of_both::<V, 32>(a, low_words, b, high_words);
+    let (a, b) = one_round_of_both::<V, 48>(a, low_words, b, high_words);
     (sums(low, a), sums(high, b))
 }
 

@@ -8,11 +8,13 @@ start h words = refl
 pub returns-clause-low : goal.returns-clause-low
 returns-clause-low g c = λ k low.
     let h = lane g.V.Lanes.at k c.args.low in
-    let first = c.half_block_of_both.ensures.low k h low (start h _) in
-    c.sums.ensures k low ∙ ap (add_state h) (c.half_block_of_both-2.ensures.low k h low first)
+    let second = c.one_round_of_both-2.ensures.low k h low (c.one_round_of_both.ensures.low k h low (start h _)) in
+    let last = c.one_round_of_both-4.ensures.low k h low (c.one_round_of_both-3.ensures.low k h low second) in
+    c.sums.ensures k low ∙ ap (add_state h) last
 
 pub returns-clause-high : goal.returns-clause-high
 returns-clause-high g c = λ k low.
     let h = lane g.V.Lanes.at k c.args.high in
-    let first = c.half_block_of_both.ensures.high k h low (start h _) in
-    c.sums-2.ensures k low ∙ ap (add_state h) (c.half_block_of_both-2.ensures.high k h low first)
+    let second = c.one_round_of_both-2.ensures.high k h low (c.one_round_of_both.ensures.high k h low (start h _)) in
+    let last = c.one_round_of_both-4.ensures.high k h low (c.one_round_of_both-3.ensures.high k h low second) in
+    c.sums-2.ensures k low ∙ ap (add_state h) last

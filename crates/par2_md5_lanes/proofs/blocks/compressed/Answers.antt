@@ -5,5 +5,6 @@ pub returns : goal.returns
 unfolding rounds
 returns g c = λ k low.
     let h = lane g.V.Lanes.at k c.args.state in
-    let first = c.half_block-after.ensures k h low refl in
-    c.sums.ensures k low ∙ ap (add_state h) (c.half_block-after-2.ensures k h low first)
+    let second = c.one_round-after-2.ensures k h low (c.one_round-after.ensures k h low refl) in
+    let last = c.one_round-after-4.ensures k h low (c.one_round-after-3.ensures k h low second) in
+    c.sums.ensures k low ∙ ap (add_state h) last
