@@ -3,7 +3,7 @@
 ghost use Rattle.std.specs.Prelude.{◌≤◌};
 
 use md5::{Digest, Md5};
-use par2_create::file_record_by_md5;
+use par2_inputs::file_record_by_md5;
 use par2_packets::{FileRecord, Pair};
 use std::process::Abort;
 

@@ -1,81 +1,23 @@
 //! Plans a create: the changes that write its outputs, or the fault for which it is refused. `plan_create` checks the
 //! arguments and the inputs, describes the inputs, names the volumes, and lists the changes.
-#![tactic(auto, using(crate::proofs::Steps::create, crate::proofs::Refusals::refused_by))]
+#![tactic(auto, using(crate::proofs::Steps::create))]
 
-ghost use Rattle.std.specs.Prelude.{◌≡◌, ◌<◌, not, position, map, string_bytes, is_some, IfOk, IfErr, IfSome, Some, None, ◌++◌, OnOk, ◌≤◌, IsTrue};
-ghost use Rattle.par2_spec.specs.Prelude.{create_args_of, head_fault, bad_name, after, is_input_name, effects, are_applicable, Create, FailsFor, changes_of, FailsAs, RefusesEarly, SucceedsAs};
+ghost use Rattle.std.specs.Prelude.{◌≡◌, map, string_bytes, IfOk, None, ◌++◌, OnOk, ◌≤◌, IsTrue};
+ghost use Rattle.par2_spec.specs.Prelude.{create_args_of, bad_name, after, effects, are_applicable, Create, FailsFor, changes_of, FailsAs, RefusesEarly, SucceedsAs};
 ghost use Rattle.par2_files.specs.Folders.{change_of};
-ghost use Rattle.par2_create.specs.Outputs.{put_change, RecordsInputs, as_file, inputs_fault};
+ghost use Rattle.par2_inputs.specs.Causes.{inputs_fault};
+ghost use Rattle.par2_create.specs.Outputs.{put_change, RecordsInputs, as_file};
 ghost use Rattle.par2_files.specs.Checkpoints.{AreCheckpointsOf};
 
-use crate::inputs::{contents_of, existing, files_fault, inputs_in, no_duplicate, volumes};
-use crate::records::{Parts, file_records, index_of, sorted_by_id};
 use crate::volumes::volume_files;
 use par2_files::{Bytes, Change, Changes, Checkpoints, Folder, Name, checkpoint_at};
+use par2_inputs::{
+    Parts, bad_name, contents_of, existing, file_records, files_fault, index_name, index_of,
+    input_names, inputs_in, no_duplicate, sorted_by_id, volumes,
+};
 use par2_packets::{DuplicateId, FileRecord};
-use par2_slices::is_slice_size;
 use par2_spec::{CreateArgs, Fault, Result};
 use std::alloc::Global;
-
-// The argument as the name of an input, if it is one, which doesn't end in `.par2`.
-fn input_name(word: &str) -> Option<Name>
-    ensures variant { is_some result ≡ is_input_name word.now }
-    ensures value { IfSome result (λ name. name ≡ word.now) }
-{
-    Name::new(word).ok().filter(|name| !name.is_par())
-}
-
-/// The name of the index, if the slice size, the exponents, the base and the number of inputs are valid. Otherwise it
-/// returns the first fault of these (`head_fault`).
-#[tactic(auto, unfolding(par2_spec::specs::Refusals::head_fault))]
-pub fn index_name(args: &CreateArgs) -> Result<Name, Fault>
-    ensures refused { IfErr result (λ fault. head_fault (create_args_of args.now) ≡ Some fault) }
-    ensures accepted { IfOk result (λ _. head_fault (create_args_of args.now) ≡ None) }
-    ensures name { IfOk result (λ name. name ≡ string_bytes args.now.base) }
-{
-    if !is_slice_size(args.slice) {
-        return Err(Fault::BadSliceSize);
-    }
-    // All exponents are below 65,536.
-    let (first, count) = (args.first, args.count);
-    if count > 65536 || first > 65535 || first + count > 65536 {
-        return Err(Fault::BadCount);
-    }
-    let base = Name::new(&args.base).ok();
-    let name = base.filter(|name| name.is_par()).ok_or(Fault::BadBase)?;
-    if args.inputs.is_empty() {
-        return Err(Fault::NoInput);
-    }
-    Ok(name)
-}
-
-// The index, from 0, of the first argument that can't be the name of an input.
-fn first_bad(words: &[String]) -> Option<usize>
-    ensures place { result ≡ position (λ word. not (is_input_name (string_bytes word))) words.now }
-    ensures fits { IfSome result (λ place. place < usize.MAX) }
-{
-    words.iter().position(|word| input_name(word).is_none())
-}
-
-/// The fault `BadName` with the place of the first argument, from 1, that can't be the name of an input. It takes no
-/// memory.
-pub fn bad_name(words: &[String]) -> Option<Fault>
-    ensures { result ≡ bad_name (map string_bytes words.now) }
-{
-    match first_bad(words) {
-        Some(place) => Some(Fault::BadName(place + 1)),
-        None => None,
-    }
-}
-
-/// The names of the inputs, in order, once `bad_name` has found no fault.
-pub(crate) fn input_names(alloc: Global, words: &[String]) -> Result<Vec<Name>>
-    requires { bad_name (map string_bytes words.now) ≡ None }
-    ensures { IfOk result (λ names. names.items ≡ map string_bytes words.now) }
-{
-    let names = words.iter().filter_map(|word| input_name(word));
-    names.collect(alloc)
-}
 
 /// The change that writes a file, or replaces it if it exists already.
 pub fn put_change(folder: &Folder, name: Name, bytes: Vec<u8>) -> Change
@@ -110,7 +52,7 @@ pub struct Creation {
 
 // The records of the inputs, if nothing is wrong with them. Their MD5s are computed side by side with a checkpoint of
 // the folder at `name`, the index, which is the least name that a create writes.
-#[tactic(auto, unfolding(crate::specs::Outputs::inputs_fault))]
+#[tactic(auto, unfolding(par2_inputs::specs::Causes::inputs_fault))]
 fn records_of_inputs(
     alloc: Global,
     folder: &Folder,

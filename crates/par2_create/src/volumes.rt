@@ -7,10 +7,9 @@ ghost use Rattle.par2_spec.specs.Answers.{Appends};
 ghost use Rattle.par2_spec.specs.Prelude.{lists_of};
 ghost use Rattle.par2_create.specs.Outputs.{volume_file_name, AreFiles, blank_volume, volume_exponents, length_with, places_in, places_of, with_slices};
 
-use crate::inputs::Volume;
-use crate::records::{Parts, input_slices};
 use par2_files::Name;
 use par2_gf16::Gf;
+use par2_inputs::{Parts, Volume, input_slices};
 use par2_packets::{digest_recoveries, with_undigested};
 use par2_solve::write_recovery_slices;
 use par2_spec::Result;

@@ -1,4 +1,4 @@
-//! Records of files, File IDs and Recovery Set IDs, and the order of the files in a set. `par2_create` makes the
+//! Records of files, File IDs and Recovery Set IDs, and the order of the files in a set. `par2_inputs` makes the
 //! records with `file_id`, sorts them by `sort_ids`, and takes the `main_id` of the sorted ones.
 
 ghost use Rattle.std.specs.Prelude.{◌≡◌, ◌≤◌, ◌<◌, ◌↔◌, ℕ, false, length, map, slice_index, IsOk, IsTrue, OnOk, IsPermutation};

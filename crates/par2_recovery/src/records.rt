@@ -6,10 +6,10 @@ ghost use Rattle.std.specs.List.Sorted.{IsStrictlyIncreasing};
 ghost use Rattle.std.specs.Str.{bytes_eq};
 ghost use Rattle.par2_spec.specs.Prelude.{id_of, in_id_order, files_of};
 ghost use Rattle.par2_packets.specs.PacketViews.{record_id_number};
-ghost use Rattle.par2_create.specs.Records.{AreRecords, names_of};
+ghost use Rattle.par2_inputs.specs.Records.{AreRecords, names_of};
 
-use par2_create::{contents_of, file_records, inputs_in, sorted_by_id};
 use par2_files::{Folder, Name};
+use par2_inputs::{contents_of, file_records, inputs_in, sorted_by_id};
 use par2_md5_lanes::buffer_digests;
 use par2_packets::{DuplicateId, FileRecord};
 use std::alloc::{AllocError, Global};

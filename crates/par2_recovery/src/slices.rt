@@ -3,13 +3,13 @@
 ghost use Rattle.std.specs.Prelude.{◌≡◌, ◌+◌, ◌%◌, ◌^◌, ◌≤◌, length, map, IfOk};
 ghost use Rattle.std.specs.List.{range_with_len};
 ghost use Rattle.par2_spec.specs.Prelude.{padded, recovery, lists_of};
-ghost use Rattle.par2_create.specs.Records.{slices_of_records};
+ghost use Rattle.par2_inputs.specs.Records.{slices_of_records};
 ghost use Rattle.par2_transform.specs.Chirps.{byte_lists};
 
 use crate::SetRecord;
-use par2_create::input_slices;
 use par2_files::Folder;
 use par2_gf16::Gf;
+use par2_inputs::input_slices;
 use par2_solve::{blank, numbers_from, write_recovery_slices};
 use par2_transform::{Places, whole_buffers};
 use std::alloc::{AllocError, Global};

@@ -10,9 +10,9 @@ ghost use Rattle.par2_solve.specs.Rebuilding.{CanRebuild};
 mod outputs;
 
 pub use outputs::{slices_added, slices_written};
-use par2_create::input_slices;
 use par2_folder::{Bytes, Change, Folder, Name};
 use par2_gf16::Gf;
+use par2_inputs::input_slices;
 use par2_recovery::{
     RebuildFault, RecordFault, SetRecord, Survivors, rank, rebuild, recovery_slice,
     recovery_slices_over,

@@ -1,7 +1,7 @@
 use Rattle.recovery_calls.proofs.Common.{ℕ, List, length, ap, rules, arith, Bor, length-map}
 use Rattle.par2_spec.specs.Prelude.{padded}
 use Rattle.par2_solve.specs.BufferContents.{byte_lists}
-use Rattle.par2_create.specs.Records.{slices_of_records}
+use Rattle.par2_inputs.specs.Records.{slices_of_records}
 use Rattle.par2_packets.specs.declared.record.FileRecord.{FileRecord}
 use Rattle.recovery_calls.proofs.recovery_slice_of.Goals as goal
 

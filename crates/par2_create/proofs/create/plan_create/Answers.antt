@@ -1,4 +1,4 @@
-use Rattle.par2_create.proofs.Names.{◌≡◌, ◌∙◌, ◌∷◌, inr, refl, sym, ap, ap₂, subst, true, Some, List, ℕ, map, string_bytes, None, Option, is_par_name, err_from_is_err_and, Folder, Create, CreateArgs, bad_name, early_refusal, refusal, after, create_args_of, Fault, Volume, long_name, existing, volumes_of, volume_names, output_names, are_applicable, effects, changes_of, create_applies, create_changes, ◌++◌, [], map-map, Change, put_change, recovery_packets, as_file, files_of, flat_map, head_fault, inputs_fault, ◌≤◌, ◌%◌, ◌^◌, length, length-map, packet, index_packets, main_id, record_of, in_id_order, all_slices, file_record_of, FileRecord, ◌+◌, RecordsInputs, refused_early, create_leads, All, length-md5, names_of, files_of_records, IsHead, AreInputs, head_passed, inputs_passed, few_slices, few_in_order, early_by, refused_by, long_without_base, volumes_end, written, create_written}
+use Rattle.par2_create.proofs.Names.{◌≡◌, ◌∙◌, ◌∷◌, inr, refl, sym, ap, ap₂, subst, true, Some, List, ℕ, map, string_bytes, None, Option, is_par_name, err_from_is_err_and, Folder, Create, CreateArgs, bad_name, early_refusal, refusal, after, create_args_of, Fault, Volume, long_name, existing, volumes_of, volume_names, output_names, are_applicable, effects, changes_of, create_applies, create_changes, ◌++◌, [], map-map, Change, put_change, recovery_packets, as_file, files_of, flat_map, head_fault, inputs_fault, ◌≤◌, length, length-map, packet, index_packets, main_id, record_of, in_id_order, all_slices, file_record_of, FileRecord, ◌+◌, RecordsInputs, refused_early, create_leads, All, length-md5, names_of, files_of_records, IsHead, AreInputs, head_passed, inputs_passed, few_slices, few_in_order, early_by, refused_by, long_without_base, volumes_end, written, create_written}
 use Rattle.par2_create.proofs.create.plan_create.Goals.{In-Some, After-existing, In_ok-push_files}
 use Rattle.par2_spec.proofs.ListsLaws as passed
 use Rattle.par2_create.proofs.create.plan_create.Goals as goal

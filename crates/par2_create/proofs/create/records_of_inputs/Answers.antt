@@ -1,4 +1,4 @@
-use Rattle.par2_create.proofs.Names.{◌≡◌, ◌∙◌, ap, sym, refl, subst, inr, None, Option, Fault, DuplicateId, Some, map, string_bytes, files_of, input_file, inputs_fault, files_fault, ids_fault, duplicate_input, create_args_of, AreRecords, false≢true, buffers_of, Input, md5, ids_accepted, ids_refused, inputs_by}
+use Rattle.par2_create.proofs.Names.{◌≡◌, ◌∙◌, ap, sym, refl, subst, inr, None, Option, Fault, DuplicateId, Some, map, string_bytes, files_of, input_file, inputs_fault, files_fault, ids_fault, duplicate_input, create_args_of, AreRecords, false≢true, buffers_of, md5, ids_accepted, ids_refused, inputs_by}
 use Rattle.par2_create.proofs.create.records_of_inputs.Goals.{In_ok-records}
 use Rattle.par2_create.proofs.create.records_of_inputs.Goals as goal
 
@@ -32,4 +32,4 @@ returns-clause-refused c =
 
 pub file_records-requires-clause-md5s : goal.file_records-requires-clause-md5s
 file_records-requires-clause-md5s c =
-    c.deref-8.ensures.value ∙ c.in_ok-checkpointed.ensures.beside ∙ ap (map md5) (ap buffers_of c.deref-6.ensures.value ∙ c.in_ok-contents.ensures ∙ ap (map (λ (input : Input). input.bytes.now)) (c.deref-5.ensures.value ∙ sym c.deref-7.ensures.value))
+    c.deref-8.ensures.value ∙ c.in_ok-checkpointed.ensures.beside ∙ ap (map md5) (ap buffers_of c.deref-6.ensures.value ∙ c.in_ok-contents.ensures ∙ ap (map (λ input. input.bytes.now)) (c.deref-5.ensures.value ∙ sym c.deref-7.ensures.value))

@@ -1,4 +1,4 @@
-use Rattle.par2_create.proofs.Names.{◌≡◌, ◌∙◌, List, [], ◌∷◌, ◌++◌, ℕ, File, length, arith, Vec, Global, with_items_is, rules, sym, ap, ap₂, map, map-append, map_more, as_file, lists_of, volume_file_name, with_slices, Volume, get_or, drop, ◌+◌, with_items, some_left, taken}
+use Rattle.par2_create.proofs.Names.{◌≡◌, ◌∙◌, List, [], ◌∷◌, ◌++◌, ℕ, File, length, Vec, Global, with_items_is, rules, sym, ap, ap₂, map, map-append, map_more, as_file, lists_of, volume_file_name, with_slices, Volume, get_or, drop, ◌+◌, with_items, some_left, taken}
 use Rattle.par2_create.proofs.volumes.digested.Goals.{After-as_mut_slice}
 use Rattle.par2_create.proofs.volumes.digested.Goals as goal
 

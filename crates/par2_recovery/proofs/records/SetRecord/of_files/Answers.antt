@@ -1,6 +1,6 @@
 use Rattle.par2_recovery.proofs.Common.{refl, false≢true}
 use Rattle.par2_spec.specs.Prelude.{files_of}
-use Rattle.par2_create.proofs.FileRecords.{files_of_records, ids_are}
+use Rattle.par2_inputs.proofs.FileRecords.{files_of_records, ids_are}
 use Rattle.par2_recovery.proofs.records.SetRecord.of_files.Goals as goal
 
 pub returns-in-Ok-clause-files : goal.returns-in-Ok-clause-files

@@ -1,5 +1,0 @@
-use Rattle.par2_create.proofs.Names.{◌≡◌, ◌<◌, ℕ, false, take, HoldsNames, comes_again}
-use Rattle.par2_create.proofs.inputs.no_duplicate.Given as goal
-
-abbrev pub invariant-loop-i : goal.invariant-loop-i
-invariant-loop-i l = ((k : ℕ) → k < l.i → comes_again l.names k ≡ false) × HoldsNames l.seen (take l.i l.names)
