@@ -1,4 +1,4 @@
-//! Tests of the library crates below par2_repair and par2_create, through their public calls: digests, the field,
+//! Tests of the library crates below par2_verify and par2_create, through their public calls: digests, the field,
 //! elimination, the transform, slices and their search, packets, sets, recovery slices and rebuilding, folders and
 //! stores. Nothing depends on this crate. It must not use what those crates keep private.
 //!

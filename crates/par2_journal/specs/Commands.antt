@@ -10,7 +10,7 @@ use Rattle.par2_spec.specs.declared.Fault.TheVariants as faults
 use Rattle.par2_spec.specs.declared.JournalFault.{JournalFault}
 use Rattle.par2_spec.specs.declared.JournalFault.TheVariants.{FolderChanged, JournalInvalid, Memory}
 use Rattle.par2_files.specs.declared.change.Change as given
-use Rattle.par2_repair.specs.Findings.{words}
+use Rattle.par2_verify.specs.Findings.{words}
 use Rattle.par2_repair.specs.Repairing.{WritesAsDescribed}
 use Rattle.par2_journal_format.specs.Journals.{IsSealed, changes_in}
 use Rattle.par2_journal.specs.Sessions.{IsReady, next_of}

@@ -14,8 +14,9 @@ use par2_journal_format::{HalfwayPartView, JournalView, encode, finish_both};
 use par2_laws::answers::{
     repair_leaves_each_file, repair_restores_the_files, repair_restores_the_inputs,
 };
-use par2_repair::{Changes, Fault, Report, check, draft_repair, plan_purge};
+use par2_repair::{Changes, Fault, draft_repair, plan_purge};
 use par2_spec::{Action, Result};
+use par2_verify::{Report, check};
 use std::alloc::{AllocError, Global};
 use std::marker::Model;
 use thiserror::Error;
@@ -34,8 +35,8 @@ impl Session {
     ghost use Rattle.par2_journal.specs.Commands.{IsAfter, LeadsFrom, MakesReady, MayRefuse, Performs, Prepares, UndosGiveBack, WritesFiles, kept_history, nothing_for, repair_of};
     ghost use Rattle.par2_spec.specs.Planned.{FailsIn, RefusesEarly, verify_of};
     ghost use Rattle.par2_spec.specs.Reports.{report_in};
-    ghost use Rattle.par2_repair.specs.Findings.{words};
-    ghost use Rattle.par2_repair.specs.ReportViews.{report_view};
+    ghost use Rattle.par2_verify.specs.Findings.{words};
+    ghost use Rattle.par2_verify.specs.ReportViews.{report_view};
     ghost use Rattle.par2_journal.specs.Sessions.{CanBe, Fits, HasPrintsOf, IsReady, action_for, entries_for};
     ghost use Rattle.par2_journal.specs.declared.commands.Kind.TheVariants.{Changing};
 

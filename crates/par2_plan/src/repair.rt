@@ -3,7 +3,7 @@
 ghost use Rattle.std.specs.Prelude.{◌≡◌, ◌⊎◌, IsTrue, IfErr, IfOk, OnOk};
 ghost use Rattle.par2_spec.specs.Prelude.{are_applicable, effects, AreFewFor, RestoresFiles, RestoresInputs, folder_left, FailsAs, GivesChanges, LeadsAs, RefusesEarly, SucceedsAs, repair_of};
 ghost use Rattle.par2_repair.specs.Repairing.{HasItsMd5s, WritesAsDescribed};
-ghost use Rattle.par2_repair.specs.Findings.{words};
+ghost use Rattle.par2_verify.specs.Findings.{words};
 
 use par2_files::{Changes, Folder};
 use par2_laws::answers::{repair_restores_the_files, repair_restores_the_inputs};

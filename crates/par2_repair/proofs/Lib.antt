@@ -1,6 +1,5 @@
 mod Common
 mod Drafts
-mod ReportValues
 mod RepairParts
 mod Restoring
 mod Steps

@@ -1,6 +1,6 @@
 -- The parts of a repair are those of the definitions.
-use Rattle.par2_repair.proofs.Common.{◌≡◌, ◌⊎◌, inl, inr, subst, ℕ, List, [], ◌∷◌, ◌++◌, length, map, refl, sym, ap, ap₂, ◌∙◌, Bool, true, false, not, cond, ◌&&◌, ◌||◌, ◌+◌, arith, Ok, ◌==◌, Option, is_none, filter, filter_map, flat_map, None, Some, AllByRecursion, enumerate_from, list_any, bytes_eq, or_right, and_parts, not-true, false_from_ne_true, is_incomplete, matching, matches, lost, survivors, candidates, incomplete_names, known, is_par_name, is_among, map-map, Change, Rename, Remove, Pair, first_fault, fault_where, Folder, bytes_of, has, now_at, repair_changes, repair_removals, is_repairable, aside, put_aside, names_without_match, rebuilt, par_files, files_of_slices, is_par_file, rebuilt_targets, ParSet, Target, set_of, found, Fault, all-append, filter-map, all-each, all-filter, lost_of, long_aside, undetermined_fault, list_all, RepairFailed, matches_taken, writes, removed, renamed, place_in, BTreeMap, BTreeSet, contains, slice_cmp, nat_cmp, option_map, itself, among-filter, among_some, clash, repair_refusal, Err, Verify, Repair, Purge, then_fault, purge_changes, LeadsToAfter, changes_of, set_in, purge_refusal, by_set, early_refusal, refusal, AreFew, command_leads, set_in_reads, same_ok, repair_by, append-nil, bytes_eq-Decides, filter-append, filter_agree, names_there, HasAsides, distinct, same_either_way, AreDistinct, distinct-filter, position_from, NoSuchFile, absent_file, missing, position_from-zero, at_none, never_found, ◌<◌, all_below_are, found_one, length-map, zip, slice_get, IsDistinct, range_with_len, incomplete, intact_names, distinct_from_std, std_from_distinct, listed_at, first_intact, without_number, matched_from, matched_numbers, NumbersAreNames, option_and_then, slice_get-get_or, md5, and-false, HoldsOwned, repairable-iff, matches_of_incomplete, all_weaker, filter_passes, recursion_from_All}
-use Rattle.par2_spec.specs.Prelude.{accepted, names as names_in, all_below}
+use Rattle.par2_repair.proofs.Common.{◌≡◌, ◌⊎◌, inl, inr, subst, ℕ, List, [], ◌∷◌, ◌++◌, length, map, refl, sym, ap, ap₂, ◌∙◌, Bool, true, false, not, cond, ◌&&◌, ◌||◌, ◌+◌, arith, Ok, ◌==◌, Option, is_none, filter, filter_map, flat_map, None, Some, AllByRecursion, enumerate_from, list_any, bytes_eq, or_right, and_parts, not-true, false_from_ne_true, is_incomplete, matching, matches, lost, survivors, candidates, incomplete_names, known, is_par_name, is_among, Change, Rename, Remove, Pair, first_fault, fault_where, Folder, bytes_of, has, now_at, repair_changes, repair_removals, is_repairable, aside, put_aside, names_without_match, rebuilt, par_files, files_of_slices, is_par_file, rebuilt_targets, ParSet, Target, set_of, found, Fault, all-append, filter-map, all-each, all-filter, lost_of, long_aside, undetermined_fault, list_all, RepairFailed, matches_taken, writes, removed, renamed, place_in, BTreeMap, BTreeSet, contains, slice_cmp, nat_cmp, option_map, itself, among-filter, among_some, clash, repair_refusal, Err, Verify, Repair, Purge, then_fault, purge_changes, LeadsToAfter, changes_of, set_in, purge_refusal, by_set, early_refusal, refusal, AreFew, command_leads, set_in_reads, same_ok, repair_by, filter_agree, names_there, HasAsides, md5, HoldsOwned, repairable-iff, all_weaker, filter_passes, recursion_from_All, names_in_pairs}
+use Rattle.par2_spec.specs.Prelude.{accepted, names as names_in}
 
 -- the refusal if a file has another MD5 than its target describes
 abbrev pub wrong_digest : List (Target × List ℕ) → Option Fault
@@ -71,11 +71,6 @@ none_among (file ∷ files) = none_among files
 module _ (folder : Folder) (set : ParSet) (searched : List (List ℕ)) where
   abbrev ms : Pairs
   ms = matches folder set searched
-
-  pub names_in_pairs : incomplete_names folder set ≡ map (λ m. m.0.name) ms
-  names_in_pairs =
-      ap (map (λ (t : Target). t.name)) (sym (matches_of_incomplete folder set searched))
-      ∙ map-map (λ (t : Target). t.name) (λ (m : Target × Option (List ℕ)). m.0) ms
 
   -- ---- refusals
 
@@ -164,7 +159,7 @@ module _ (folder : Folder) (set : ParSet) (searched : List (List ℕ)) where
   pub put_aside_in : (incomplete : Pairs) → incomplete ≡ ms → names_there folder incomplete ≡ put_aside folder set
   put_aside_in incomplete e =
       ap (names_there folder) e
-      ∙ sym (filter-map (has folder) (λ (m : Target × Option (List ℕ)). m.0.name) ms) ∙ ap (filter (has folder)) (sym names_in_pairs)
+      ∙ sym (filter-map (has folder) (λ (m : Target × Option (List ℕ)). m.0.name) ms) ∙ ap (filter (has folder)) (sym (names_in_pairs folder set searched))
 
   -- each file that is put aside has its aside in the map
   pub asides_are : (names others : List (List ℕ)) (asides : BTreeMap (List ℕ) (List ℕ)) → HasAsides names others asides → names ≡ put_aside folder set → others ≡ map (aside folder set) names
@@ -228,109 +223,3 @@ module _ (folder : Folder) (base : List ℕ) where
     pub purge_by_set : changes_of folder (Purge base) ≡ purge_changes folder set
     unfolding changes_of
     purge_by_set = ap (by_set [] (purge_changes folder)) reads
-
--- Names that come once.
-
--- one more name is added if it is new
-pub distinct_more : (xs : List (List ℕ)) (x : List ℕ) → distinct (xs ++ x ∷ []) ≡ cond (is_among xs x) (distinct xs) (distinct xs ++ x ∷ [])
-distinct_more [] x = refl
-distinct_more (y ∷ xs) x = grind (arith, same_either_way y x, distinct_more xs x, filter-append (λ z. not (bytes_eq y z)) (distinct xs) (x ∷ []), append-nil (filter (λ z. not (bytes_eq y z)) (distinct xs)))
-
-out_of_filter : (x : List ℕ) (xs : List (List ℕ)) → is_among (filter (λ z. not (bytes_eq x z)) xs) x ≡ false
-out_of_filter x xs = among-filter (λ z. not (bytes_eq x z)) xs x ∙ ap (λ b. is_among xs x && not b) ((bytes_eq-Decides x x).1 refl) ∙ and-false (is_among xs x)
-
--- each name is there once
-pub distinct_once : (xs : List (List ℕ)) → AreDistinct (distinct xs)
-distinct_once [] = tt
-distinct_once (x ∷ xs) = (out_of_filter x (distinct xs), distinct-filter (λ z. not (bytes_eq x z)) (distinct xs) (distinct_once xs))
-
--- The base and the extras that are in the folder.
-
--- ---- the first word that is absent
-
-later_place : {X : Type 0} (test : X → Bool) (i j : ℕ) (xs : List X) → position_from test (i + j) xs ≡ option_map (λ k. i + k) (position_from test j xs)
-later_place test i j [] = refl
-later_place test i j (x ∷ xs) = grind (arith, later_place test i (j + 1) xs)
-
-missing_behind : (folder : Folder) (base : List ℕ) (extras : List (List ℕ)) → has folder base ≡ true → missing folder (base ∷ extras) ≡ option_map (λ k. 1 + k) (missing folder extras)
-missing_behind folder base extras there =
-    let test = λ (word : List ℕ). not (has folder word) in
-    position_from-zero test (base ∷ extras)
-    ∙ ap (λ b. cond (not b) (Some 0) (position_from test 1 extras)) there
-    ∙ later_place test 1 0 extras
-    ∙ ap (option_map (λ k. 1 + k)) (sym (position_from-zero test extras))
-
-module _ (folder : Folder) (base : List ℕ) (extras : List (List ℕ)) where
-  pub base_first : has folder base ≡ false → absent_file folder base extras ≡ Some (NoSuchFile 0)
-  base_first gone =
-      let test = λ (word : List ℕ). not (has folder word) in
-      ap (option_map (λ k. NoSuchFile (0 + k))) (position_from-zero test (base ∷ extras) ∙ ap (λ b. cond (not b) (Some 0) (position_from test 1 extras)) gone)
-
-  module _ (there : has folder base ≡ true) where
-    pub extra_first : (k : ℕ) → missing folder extras ≡ Some k → absent_file folder base extras ≡ Some (NoSuchFile (k + 1))
-    extra_first k e =
-        ap (option_map (λ k. NoSuchFile (0 + k))) (missing_behind folder base extras there ∙ ap (option_map (λ k. 1 + k)) e)
-        ∙ ap (λ n. Some (NoSuchFile n)) (let n : 0 + (1 + k) ≡ k + 1 = omega arith in n)
-
-    pub none_absent : missing folder extras ≡ None → absent_file folder base extras ≡ None
-    none_absent e = ap (option_map (λ k. NoSuchFile (0 + k))) (missing_behind folder base extras there ∙ ap (option_map (λ k. 1 + k)) e)
-
-  -- an absent file is why no set is read
-  pub unread : (fault : Fault) → absent_file folder base extras ≡ Some fault → set_in folder base extras ≡ Err fault
-  unread fault e = unfold set_in in rw e refl
-
-  -- if no file is absent, the set is that of the base
-  pub all_present : absent_file folder base extras ≡ None → set_in folder base extras ≡ set_of folder base
-  all_present e = unfold set_in in rw e refl
-
-  pub is_early : early_refusal folder (Verify base extras) ≡ absent_file folder base extras
-  unfolding early_refusal
-  is_early = refl
-
-  pub not_early : absent_file folder base extras ≡ None → (fault : Fault) → early_refusal folder (Verify base extras) ≡ Some fault → ⊥
-  not_early none fault early = never_found _ fault none (sym is_early ∙ early)
-
--- if no file is absent, each extra word is a file's name
-pub all_there : (folder : Folder) (base : List ℕ) (words : List (List ℕ)) → absent_file folder base words ≡ None → filter (has folder) words ≡ words
-all_there folder base words e = kept words (at_none 0 NoSuchFile (λ word. not (has folder word)) (base ∷ words) e).1
-  where
-    kept : (words : List (List ℕ)) → AllByRecursion (λ word. not (has folder word) ≡ false) words → filter (has folder) words ≡ words
-    kept [] h = refl
-    kept (word ∷ words) h = let there = h.0 in grind (arith, kept words h.1)
-
--- The matches of incomplete targets, by numbers and by names.
-
--- ---- numbers are indices
-
-left_hold : (P : ℕ → Type 0) (o : Option ℕ) (free : List ℕ) → AllByRecursion P free → AllByRecursion P (without_number o free)
-left_hold P None free h = h
-left_hold P (Some taken) free h = all-filter P (λ i. not (i == taken)) free h
-
--- each number has a name
-named : (names : List (List ℕ)) (s : ℕ) (buffers : List (List ℕ)) (ts : List Target) (free : List ℕ) → AllByRecursion (λ i. i < length names) free
-    → map (option_and_then (slice_get names)) (matched_from s buffers free ts) ≡ map (option_map (listed_at names)) (matched_from s buffers free ts)
-named names s buffers [] free h = refl
-named names s buffers (t ∷ ts) free h =
-    ap₂ (λ (name : Option (List ℕ)) (found : List (Option (List ℕ))). name ∷ found) (one (first_intact s buffers t free) (λ i e. (found_one (λ i. i < length names) _ free h i e).0))
-    (named names s buffers ts (without_number (first_intact s buffers t free) free) (left_hold (λ i. i < length names) (first_intact s buffers t free) free h))
-  where
-    one : (o : Option ℕ) → ((i : ℕ) → o ≡ Some i → i < length names) → option_and_then (slice_get names) o ≡ option_map (listed_at names) o
-    one None h = refl
-    one (Some i) h = slice_get-get_or names i [] (h i refl)
-
--- ---- the matches of a set
-
-module _ (folder : Folder) (set : ParSet) (searched : List (List ℕ)) where
-  -- the candidates that aren't names of intact targets
-  abbrev pub free_by : List (List ℕ)
-  free_by = filter (λ name. not (is_among (intact_names folder set) name)) searched
-
-  pub matches_by_numbers : IsDistinct bytes_eq searched → NumbersAreNames folder set.slice_size free_by (incomplete folder set)
-      → zip (incomplete folder set) (map (option_and_then (slice_get free_by)) (matched_numbers set.slice_size (map (bytes_of folder) free_by) (incomplete folder set))) ≡ matches folder set searched
-  unfolding matches all_below
-  matches_by_numbers once law =
-      let buffers : List (List ℕ) = map (bytes_of folder) free_by in
-      let low : AllByRecursion (λ i. i < length free_by) (range_with_len 0 (length buffers)) = subst (λ n. AllByRecursion (λ i. i < n) (range_with_len 0 (length buffers))) (length-map free_by (bytes_of folder)) (all_below_are (length buffers)) in
-      ap (λ found. zip (incomplete folder set) found)
-      (named free_by set.slice_size buffers (incomplete folder set) (range_with_len 0 (length buffers)) low
-      ∙ law (std_from_distinct free_by (distinct-filter _ searched (distinct_from_std searched once))))

@@ -1,9 +1,14 @@
 -- Files that are cut out of slices.
-use Rattle.par2_repair.proofs.Common.{◌≡◌, ◌∙◌, ℕ, zero, suc, ◌+◌, ◌-◌, ◌≤◌, List, [], ◌∷◌, ◌++◌, length, take, refl, sym, ap, arith, min, replicate, concat, length-map, length-replicate, length-take, take-replicate, take_all, take_min, length-append, concat-append, padded, append-nil, append_assoc, map, ap₂, Bor, IfSome, None, Some, AllByRecursion, All-head, All-tail, known_of, known_alone, with_lost_slices, Window, AreShort, padded_window, subst, false, not, Option, option_map, false_from_ne_true, fault_where, IsRebuilt, IsRepairable, is_repairable, rank, kept_slices, rebuilt, known, all_pairs, lost, survivors, Folder, ParSet, NotRepairable, recovered_of, IsFaultOf, IsTrueFault, exponents_of, undetermined_fault, AreSurvivorsOf, known_among, AreRebuilt, AreEnough, drop, drop-drop, Bool, cond, filter, zip, is_among, cut_into, Target, ◌||◌, unwrap_or, list_any, BTreeMap, HasAsides, itself, clash, BTreeSet, IsFromIterResult, slice_cmp, nat_list_cmp_total, nat_cmp, eq_by_cmp, Equal-is, eq_by_cmp_equiv, update_all_pairs, update_all, exact_bytes, is_eq-slice_cmp, FilesHaveTheirSize, RebuiltSlicesAgree, TestsSayTheWords, kept_recovery, length-filled, HoldsOwned}
-use Rattle.par2_spec.specs.Repairs.{files_of_slices}
+use Rattle.par2_repair.proofs.Common.{◌≡◌, ◌∙◌, ℕ, zero, suc, ◌+◌, ◌-◌, ◌≤◌, List, [], ◌∷◌, ◌++◌, length, take, refl, sym, ap, arith, min, replicate, concat, length-map, length-replicate, length-take, take-replicate, take_all, take_min, length-append, concat-append, padded, append-nil, append_assoc, map, ap₂, Bor, IfSome, None, Some, AllByRecursion, All-head, All-tail, known_of, known_alone, with_lost_slices, Window, AreShort, padded_window, subst, false, not, Option, option_map, false_from_ne_true, fault_where, IsRebuilt, IsRepairable, is_repairable, rank, kept_slices, rebuilt, known, all_pairs, lost, survivors, Folder, ParSet, NotRepairable, recovered_of, IsFaultOf, IsTrueFault, exponents_of, undetermined_fault, AreSurvivorsOf, known_among, AreRebuilt, AreEnough, drop, drop-drop, Bool, cond, filter, zip, is_among, cut_into, Target, ◌||◌, unwrap_or, BTreeMap, HasAsides, itself, clash, slice_cmp, nat_list_cmp_total, nat_cmp, eq_by_cmp, Equal-is, eq_by_cmp_equiv, update_all_pairs, update_all, exact_bytes, FilesHaveTheirSize, RebuiltSlicesAgree, TestsSayTheWords, length-filled, Ok, Err, OnOk, Result, is_ok, member_among}
+use Rattle.par2_spec.specs.Repairs.{files_of_slices, kept_recovery}
 use Rattle.par2_solve.specs.declared.rebuild_slices.RebuildFault.TheVariants as why
 use Rattle.par2_solve.specs.declared.rebuild_slices.Survivors as code
 use Rattle.std.specs.BTreeMap as trees
+
+-- a list is the expected one if the call that makes it succeeds
+pub where_ok : {X A E : Type 0} (r : Result A E) (new made old wanted : List X) → new ≡ cond (is_ok r) made old → made ≡ wanted → OnOk r (new ≡ wanted)
+where_ok (Ok x) new made old wanted e h = e ∙ h
+where_ok (Err x) new made old wanted e h = tt
 
 -- the first items of two lists, appended
 pub take-append : (n : ℕ) (xs ys : List ℕ) → take n (xs ++ ys) ≡ take n xs ++ take (n - length xs) ys
@@ -143,13 +148,6 @@ pub target_more : (test : Target × List ℕ → Bool) (t : Target) (ts : List T
 target_more test t ts slices first old new made = let more = drop-drop (length t.pairs) first slices in grind (arith, more, append_assoc)
 
 -- Trees that are made of lists.
-
-member_among : (names : List (List ℕ)) (q : List ℕ) → list_any (eq_by_cmp (slice_cmp nat_cmp) q) names ≡ is_among names q
-member_among [] q = refl
-member_among (name ∷ names) q = ap₂ (λ a b. a || b) (is_eq-slice_cmp q name) (member_among names q)
-
-pub holds : (names : List (List ℕ)) (tree : BTreeSet (List ℕ)) → IsFromIterResult (slice_cmp nat_cmp) names tree → HoldsOwned tree names
-holds names tree is name = is.0 name ∙ member_among names name
 
 -- names paired with their asides
 abbrev pub as_pair : List ℕ × List ℕ → List ℕ × List ℕ

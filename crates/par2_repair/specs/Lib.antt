@@ -1,3 +1,1 @@
-pub mod ReportViews
 pub mod Repairing
-pub mod Findings

@@ -7,15 +7,14 @@ ghost use Rattle.std.specs.Option.{option_copied};
 ghost use Rattle.par2_spec.specs.Prelude.{are_applicable, effects, AreFew, purge_changes, purge_refusal, matches, rebuilt_targets, FailsFor, Lists, FailsAs, GivesChanges, LeadsAs, RefusesEarly, SucceedsAs, repair_of, set_in, Purge, Repair};
 ghost use Rattle.par2_repair.specs.Repairing.{HasAsides, IsDraft, bytes_written, matches_taken, names_there, place_in, removed, renamed, repair_by, writes};
 ghost use Rattle.par2_sets.specs.SetReading.{HoldsOwned, long_aside, own_files};
-ghost use Rattle.par2_repair.specs.Findings.{words};
+ghost use Rattle.par2_verify.specs.Findings.{words};
 ghost use Rattle.par2_files.specs.Folders.{change_of};
 
-use crate::matching::{Incomplete, candidates, is_incomplete, matches};
-use crate::reading::{Reading, read};
 use crate::restored::{Restored, restored_files};
 use par2_files::{Change, Changes, Folder, Name};
 use par2_sets::{ParSet, asides, par_files};
 use par2_spec::{Fault, Result};
+use par2_verify::{Incomplete, Reading, candidates, is_incomplete, matches, read};
 use std::alloc::Global;
 use std::collections::{BTreeMap, BTreeSet};
 

@@ -12,14 +12,14 @@ ghost use Rattle.par2_slices.specs.Matching.{buffers_of};
 ghost use Rattle.par2_solve.specs.Rebuilding.{CanRebuild, with_lost_slices};
 ghost use Rattle.par2_repair.specs.Repairing.{AreSurvivorsOf, undetermined_fault};
 
-use crate::matching::{Incomplete, unmatched};
 use par2_files::{Bytes, Folder, Name};
 use par2_sets::{ParSet, Target};
-use par2_slices::{Pair, found_windows};
+use par2_slices::found_windows;
 use par2_solve::{RebuildFault, Survivors, rebuild_lost};
 use par2_spec::rank_laws::{rebuilt_slices_agree, tests_say_the_words};
 use par2_spec::repair_laws::written_files_have_their_length;
 use par2_spec::{Fault, Result};
+use par2_verify::{Incomplete, all_pairs, unmatched};
 use std::alloc::Global;
 use std::collections::BTreeSet;
 use std::marker::Model;
@@ -53,7 +53,7 @@ impl<'s> Restored<'s> {
 }
 
 // Appends a slice of `s` bytes with its padding to the first bytes of a file, up to `size`, the file's length in bytes.
-#[tactic(auto, using(crate::proofs::ReportValues::where_ok, crate::proofs::Restoring::one_more_slice))]
+#[tactic(auto, using(crate::proofs::Restoring::where_ok, crate::proofs::Restoring::one_more_slice))]
 fn push_slice(file: &mut Vec<u8>, slice: &[u8], s: usize, size: usize) -> Result<()>
     requires { length file.old.items ≤ size }
     ensures { OnOk result (file.new.items ≡ take size (file.old.items ++ padded s slice.now)) }
@@ -74,14 +74,6 @@ fn joined(alloc: Global, slices: &[&[u8]], slice_size: usize, size: usize) -> Re
         push_slice(&mut file, slice, slice_size, size)?;
     }
     Ok(file)
-}
-
-/// The checksums of all slices of a set, in order, by which the slices are searched.
-pub fn all_pairs(alloc: Global, set: &ParSet) -> Result<Vec<Pair>>
-    ensures { Lists (all_pairs set.now) result }
-{
-    let pairs = set.targets().iter().flat_map(Target::pairs);
-    pairs.copied().collect(alloc)
 }
 
 // The survivors of a set: the slices that are found in the candidates, and its recovery slices. `CanRebuild`: they have

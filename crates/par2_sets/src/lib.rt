@@ -1,6 +1,6 @@
-//! The set that the PAR2 packets of a folder describe. `par2_repair` plans by it: it calls `set_of` first, then
-//! `asides` for a repair, and `par_files` for a purge. It searches no slices and repairs nothing: it reads one folder
-//! in memory, and names files.
+//! The set that the PAR2 packets of a folder describe. `par2_verify` calls `set_of` for each command on a set, then
+//! `par2_repair` calls `asides` for a repair, and `par_files` for a purge. It searches no slices and repairs nothing: it
+//! reads one folder in memory, and names files.
 #![tactic(auto)]
 
 mod set;

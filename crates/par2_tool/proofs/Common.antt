@@ -23,7 +23,7 @@ pub use Rattle.par2_journal.specs.declared.commands.Journals.{Journals}
 pub use Rattle.par2_spec.specs.Prelude.{may_refuse, Change, takes_all, Action, Command, CreateArgs, Do, Repair, Undo, Verify, Folder, Accepted, Ended, Execution, History, IsChanging, Passed, Refusal, folders, Journal, Spells, FingerprintsDiffer, Halfway, Opened, Settled, Started, halfway_where, is_valid, new_session, opened, settled_journal, started, Outcome, line, step_line, target_line, verdict_words, LeadsToAfterRequested, changes_of, early_refusal_of, set_in, Report, report_of, verdict_of, CanWalk, KeptSession, OnlyGrew, Session, changes_unless, session_of_kept, session_unless, session_with, Contents, with_change, with_journal, action_of, command_of, candidates, ParSet, ◌>>=◌, fault_of}
 pub use Rattle.par2_output.specs.Printing.{words_requested, PrinterTookAll, PrinterWrote, seen}
 pub use Rattle.par2_output.specs.declared.printer.Printer.{Printer}
-pub use Rattle.par2_repair.specs.ReportViews.{report_view, target_report_of}
+pub use Rattle.par2_verify.specs.ReportViews.{report_view, target_report_of}
 pub use Rattle.par2_spec.proofs.FolderLaws.{accepted_next, done_can_walk, grown_can_walk, ok_no_err, redone_can_walk, refused_alike, same_ok, same_session, undone_can_walk, walked_is_valid, state_files, taken_are_applicable}
 pub use Rattle.par2_spec.proofs.StopLaws.{halfway_stored, settled_stored, still_stored, taken_back_leads}
 pub use Rattle.par2_spec.proofs.ListsLaws.{by_either}

@@ -16,7 +16,7 @@ use Rattle.par2_disk.specs.declared.store.Store.{Ghosts as StoreOf}
 use Rattle.par2_disk.specs.declared.store.StoreFault.{StoreFault}
 use Rattle.par2_files.specs.Folders.{change_of}
 use Rattle.par2_files.specs.declared.change.Change as written
-use Rattle.par2_repair.specs.ReportViews.{report_view}
+use Rattle.par2_verify.specs.ReportViews.{report_view}
 use Rattle.par2_journal.specs.Commands.{IsAfter, LeadsFrom}
 use Rattle.par2_journal.specs.SessionRefusals.{MayRefuse}
 use Rattle.par2_journal.specs.declared.commands.SessionFault.{SessionFault}

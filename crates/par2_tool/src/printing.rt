@@ -7,7 +7,7 @@ ghost use Rattle.std.specs.Prelude.{◌≡◌, []};
 ghost use Rattle.par2_spec.specs.Prelude.{report_lines, output_of, error_of};
 ghost use Rattle.par2_spec.specs.Output as buffers;
 ghost use Rattle.par2_journal.specs.StepViews.{step_view};
-ghost use Rattle.par2_repair.specs.ReportViews.{state_view, target_report_of, report_view};
+ghost use Rattle.par2_verify.specs.ReportViews.{state_view, target_report_of, report_view};
 ghost use Rattle.par2_output.specs.Printing.{step_shown, state_shown, target_shown, words_given, PrinterWrote as Wrote};
 ghost use Rattle.par2_tool.specs.OpenedStores.{outcome_of};
 ghost use Rattle.par2_tool.specs.Runs.{IsPrinted};

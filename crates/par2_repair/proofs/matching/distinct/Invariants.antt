@@ -1,7 +1,0 @@
-use Rattle.par2_repair.proofs.Common.{◌≡◌, map, take, distinct, HoldsNames}
-use Rattle.par2_repair.proofs.matching.distinct.Given as goal
-
-abbrev pub invariant-loop-name : goal.invariant-loop-name
-invariant-loop-name l =
-    let names = map (λ name. name.now) (take l.name-index l.names) in
-    (l.list.items ≡ distinct names) × HoldsNames l.seen names

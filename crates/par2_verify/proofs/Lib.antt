@@ -1,0 +1,5 @@
+pub mod Common
+pub mod VerifyParts
+mod ReportValues
+mod Steps
+mod Names

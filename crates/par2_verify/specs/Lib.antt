@@ -1,0 +1,2 @@
+pub mod ReportViews
+pub mod Findings
