@@ -1,8 +1,7 @@
 -- The entries of a session before and after one of them is replaced by its inverse.
-use Rattle.par2_journal.proofs.Common.{map, ◌≡◌, ℕ, ◌+◌, ◌<◌, ◌≤◌, List, [], ◌∷◌, ◌++◌, length, get_or, set, take, drop, sym, ap, ◌∙◌, arith, length-take, drop_more, length-map, get_or-map, take_all, drop_all, take_more, take_more_set, take-set, reverse-append, drop-set-lt, reverse, insert, ◌≢◌, suc, Ok, Err, Result, Bool, true, IsTrue, refl, subst, false≢true, IsFalse, IsErr, ◌↔◌, OnOk, is_ok, action_of, Change, Action, Do, Undo, Redo, Command, History, history_after, Execution, Accepted, Passed, MayBeRefused, IsChanging, Refusal, Session, KeptSession, OnlyGrew, CanWalk, session_of_kept, session_with, session_unless, first_entry, history_of, kept_done, session_after, changes_requested, accepted_next, refused_alike, done_of_kept, undone_of_kept, redone_of_kept, walked_is_valid, same_session, Next, action_for, entries_for, moved, next_changes, next_of, is_valid, LeadsToAfterRequested, zero, inl, inr, cases_lt, drop-set, FolderState, takes_all, state_after_all, way_back, others, walks, kept_undone, kept_redone, undone_can_walk, redone_can_walk, done_can_walk, next_taken, Folder, length-append, effect, effects, inverse, state_after, state_files, state_all_back, way_back_taken, changes_back, changes_in, WentForth, insert_end, length-insert, NothingToUndo, NothingToRedo, folders, folders_along, none_dropped, one_fewer, AreUndone, UndosGiveBack, kept_history}
+use Rattle.par2_journal.proofs.Common.{map, ◌≡◌, ℕ, ◌+◌, ◌<◌, ◌≤◌, List, [], ◌∷◌, ◌++◌, length, get_or, set, take, drop, sym, ap, ◌∙◌, arith, length-take, drop_more, length-map, take_all, drop_all, take_more, take_more_set, take-set, reverse-append, drop-set-lt, reverse, insert, ◌≢◌, suc, Ok, Err, Result, Bool, true, IsTrue, refl, subst, false≢true, IsFalse, IsErr, ◌↔◌, OnOk, is_ok, action_of, Change, Action, Do, Undo, Redo, Command, History, history_after, Execution, Accepted, Passed, MayBeRefused, IsChanging, Refusal, Session, KeptSession, OnlyGrew, CanWalk, session_of_kept, session_with, session_unless, first_entry, history_of, kept_done, session_after, changes_requested, accepted_next, refused_alike, done_of_kept, undone_of_kept, redone_of_kept, walked_is_valid, same_session, Next, action_for, entries_for, moved, next_changes, next_of, is_valid, LeadsToAfterRequested, zero, inl, inr, cases_lt, drop-set, FolderState, takes_all, state_after_all, way_back, others, walks, kept_undone, kept_redone, undone_can_walk, redone_can_walk, done_can_walk, next_taken, Folder, length-append, effect, inverse, state_after, insert_end, length-insert, NothingToUndo, NothingToRedo, folders, folders_along, none_dropped, one_fewer, AreUndone, UndosGiveBack, kept_history, left_at}
 use Rattle.par2_spec.specs.declared.commands.Action as given
 use Rattle.par2_journal.specs.declared.opening.Next.TheVariants as next
-use Rattle.par2_files.specs.declared.change.Change as owned
 
 module _ {X : Type 0} (xs : List X) (i : ℕ) (within : i < length xs) where
   -- the undos up to i
@@ -34,10 +33,6 @@ module _ {X : Type 0} (xs : List X) (i : ℕ) (within : i ≤ length xs) (y : X)
 
   pub redos_added : drop (i + 1) (insert (take i xs) i y) ≡ []
   redos_added = drop_all (i + 1) (insert (take i xs) i y) (omega (arith, length_added))
-
--- the item at i, and the items after it
-pub left_at : {W X : Type 0} (v : W → X) (xs : List W) (i : ℕ) → i < length xs → (w : W) → w ≡ get_or xs i w → drop i (map v xs) ≡ v w ∷ drop (i + 1) (map v xs)
-left_at v xs i lt w is = drop_more (map v xs) i (v w) (omega (arith, lt, length-map xs v)) ∙ ap (λ x. x ∷ drop (i + 1) (map v xs)) (get_or-map v xs i w (v w) lt ∙ ap v (sym is))
 
 -- Sessions after an accepted action, and after a run of actions.
 
@@ -226,24 +221,3 @@ pub back_length : (s : FolderState) (cs : List Change) → length (way_back s.fi
 unfolding way_back
 back_length s [] = refl
 back_length s (c ∷ cs) = length-append (way_back (effect s.files c) cs) (inverse s.files c ∷ []) ∙ omega (arith, back_length (state_after s c) cs)
-
--- ---- the way back of changes
-
-pub back_taken : (f g : FolderState) (cs ds : List Change) → takes_all f cs ≡ true → g ≡ state_after_all f cs → ds ≡ way_back f.files cs → takes_all g ds ≡ true
-back_taken f g cs ds taken moved is = ap (takes_all g) is ∙ ap (λ s. takes_all s (way_back f.files cs)) moved ∙ way_back_taken f cs taken
-
-pub back_leads : (f g : FolderState) (cs ds : List Change) → takes_all f cs ≡ true → g ≡ state_after_all f cs → ds ≡ way_back f.files cs → state_after_all g ds ≡ f
-back_leads f g cs ds taken moved is = ap (state_after_all g) is ∙ ap (λ s. state_after_all s (way_back f.files cs)) moved ∙ state_all_back f cs taken
-
-pub back_again : (f g : FolderState) (cs ds : List Change) → takes_all f cs ≡ true → g ≡ state_after_all f cs → ds ≡ way_back f.files cs → way_back g.files ds ≡ cs
-back_again f g cs ds taken moved is = ap (way_back g.files) is ∙ ap (λ (s : FolderState). way_back s.files (way_back f.files cs)) moved ∙ changes_back f cs taken
-
--- ---- changes that led to a folder, and can lead back
-
-pub went_forth : (f : Folder) (start after : FolderState) (way back : List owned.Change) → start.files ≡ f
-    → takes_all start (changes_in way) ≡ true → after ≡ state_after_all start (changes_in way) → changes_in back ≡ way_back start.files (changes_in way) → WentForth f after way back
-went_forth f start after way back same taken moved is = record {
-  files = ap (λ (s : FolderState). s.files) moved ∙ state_files start (changes_in way) ∙ ap (λ g. effects g (changes_in way)) same;
-  taken = back_taken start after (changes_in way) (changes_in back) taken moved is;
-  leads = ap (λ (s : FolderState). s.files) (back_leads start after (changes_in way) (changes_in back) taken moved is) ∙ same;
-}

@@ -1,6 +1,5 @@
 mod Common
 pub mod Readiness
 mod Openings
-mod TriedNames
 pub mod Entries
 mod Names

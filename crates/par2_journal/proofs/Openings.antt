@@ -1,24 +1,6 @@
 -- Results of opening journals.
-use Rattle.par2_journal.proofs.Common.{◌≡◌, inl, inr, ℕ, ◌+◌, ◌-◌, ◌≤◌, Bool, true, false, not, ◌&&◌, List, [], ◌∷◌, length, map, take, drop, Option, Some, None, Result, Ok, Err, refl, sym, ap, subst, ◌∙◌, arith, leb, and_from, and_parts, both_ways, false_from_ne_true, cases_Bool, le-leb, leb-true, ⊎_map, reverse, position, if◌then◌else◌, ◌↔◌, ◌⊎◌, pointwise, bytes_eq, Folder, fingerprint, Change, FolderState, effect, effects, is_applicable, takes_all, state_after_all, are_applicable, folders_after, Journal, HalfwayPart, Spells, is_valid, leads_through, session_at, AnswersWhere, OpensAsIs, AnswersOpening, IsReportedWhere, more_room_all, state_files, JournalFault, JournalInvalid, FolderChanged, Memory, IsRefusal, IsSealed, Opened, through_applies, bytes_eq-Decides, md5, spells_sealed}
+use Rattle.par2_journal.proofs.Common.{◌≡◌, inl, inr, ℕ, ◌+◌, ◌-◌, ◌≤◌, Bool, true, ◌&&◌, List, ◌∷◌, length, take, drop, Option, Some, Result, Ok, Err, refl, sym, ap, subst, ◌∙◌, arith, leb, and_from, and_parts, both_ways, cases_Bool, le-leb, leb-true, ⊎_map, reverse, position, if◌then◌else◌, ◌↔◌, ◌⊎◌, bytes_eq, Folder, fingerprint, Change, FolderState, effects, takes_all, state_after_all, Journal, HalfwayPart, Spells, is_valid, leads_through, session_at, AnswersWhere, AnswersOpening, IsReportedWhere, more_room_all, state_files, JournalFault, JournalInvalid, Memory, IsRefusal, IsSealed, Opened, bytes_eq-Decides, md5, spells_sealed}
 use Rattle.par2_spec.specs.Opening as defined
-
--- changes that apply lead through these fingerprints if those of the folders that they leave are equal to them
-through_is : (f : Folder) (cs : List Change) (ps : List (List ℕ)) → length ps ≡ length cs → are_applicable f cs ≡ true → leads_through f cs ps ≡ pointwise bytes_eq (map fingerprint (folders_after f cs)) ps
-unfolding leads_through are_applicable folders_after
-through_is f [] [] same h = refl
-through_is f [] (p ∷ ps) same h = absurd (omega (arith, same))
-through_is f (c ∷ cs) [] same h = absurd (omega (arith, same))
-through_is f (c ∷ cs) (p ∷ ps) same h =
-    let both = and_parts (is_applicable f c) (are_applicable (effect f c) cs) h in
-    let fewer : length ps ≡ length cs = omega (arith, same) in
-    ap (λ b. b && bytes_eq (fingerprint (effect f c)) p && leads_through (effect f c) cs ps) both.0
-    ∙ ap (λ b. bytes_eq (fingerprint (effect f c)) p && b) (through_is (effect f c) cs ps fewer both.1)
-
-pub goes_not : (f : Folder) (cs : List Change) (ps : List (List ℕ)) → are_applicable f cs ≡ false → false ≡ leads_through f cs ps
-goes_not f cs ps h = sym (false_from_ne_true (leads_through f cs ps) (λ through. both_ways (are_applicable f cs) h (through_applies f cs ps through)))
-
-pub goes : (f : Folder) (cs : List Change) (ps prints : List (List ℕ)) → length ps ≡ length cs → are_applicable f cs ≡ true → prints ≡ map fingerprint (folders_after f cs) → pointwise bytes_eq prints ps ≡ leads_through f cs ps
-goes f cs ps prints same h is = ap (λ l. pointwise bytes_eq l ps) is ∙ sym (through_is f cs ps same h)
 
 -- ---- with more room
 
@@ -97,26 +79,3 @@ pub invalid_elsewhere : {P : Type 0} (fault : JournalFault) → IsReportedWhere 
 invalid_elsewhere fault (inl is) memory none = is
 invalid_elsewhere fault (inr (inl is)) memory none = absurd (memory is)
 invalid_elsewhere fault (inr (inr holds)) memory none = absurd (none holds)
-
--- ---- a folder as it is
-
--- what a settled journal opens as: whether the folder has its fingerprint, and whether its entries lead
-pub settled_is : (f : Folder) (j : Journal) (same valid : Bool) → bytes_eq (fingerprint f) j.fingerprint ≡ same → is_valid (session_at f j.cursor j.entries) ≡ valid
-    → defined.opened_by_part f j None ≡ (if not same then Err (FolderChanged false) else if valid then Ok (defined.Settled (session_at f j.cursor j.entries)) else Err JournalInvalid)
-settled_is f j same valid is leads =
-    let s = session_at f j.cursor j.entries in
-    λ i. if not (is i) then Err (FolderChanged false) else if leads i then Ok (defined.Settled s) else Err JournalInvalid
-
--- a settled journal whose entries lead opens on the folder, whatever its fingerprint
-pub settled_as_is : (f : Folder) (bytes : List ℕ) (j : Journal) → Spells bytes j → j.halfway ≡ None → is_valid (session_at f j.cursor j.entries) ≡ true → OpensAsIs f bytes
-unfolding defined.OpensAs defined.Opens defined.opened
-settled_as_is f bytes j spells settled valid = by_test (bytes_eq (fingerprint f) j.fingerprint) refl
-  where
-    opens : (same : Bool) → bytes_eq (fingerprint f) j.fingerprint ≡ same → defined.Opens f bytes (if not same then Err (FolderChanged false) else Ok (defined.Settled (session_at f j.cursor j.entries)))
-    opens same is = inl (j, spells, sym (ap (defined.opened_by_part f j) settled ∙ settled_is f j same true is valid))
-
-    by_test : (b : Bool) → bytes_eq (fingerprint f) j.fingerprint ≡ b → OpensAsIs f bytes
-    by_test false is = (record { session = defined.new_session f; dropped = true }, (Err (FolderChanged false), opens false is, refl), refl)
-    by_test true is =
-        let s = session_at f j.cursor j.entries in
-        (record { session = s; dropped = false }, (Ok (defined.Settled s), opens true is, refl), refl)

@@ -1,5 +1,5 @@
 -- Actions that a session prepares.
-use Rattle.par2_journal.proofs.Common.{Action, Command, Do, Repair, ◌≡◌, ◌≢◌, inl, inr, ◌⊎◌, ℕ, Bool, ◌<◌, ◌≤◌, List, [], ◌∷◌, length, map, None, Some, IsTrue, Result, Ok, Err, true, refl, sym, ap, subst, ◌∙◌, arith, IfOk, IfErr, IsErrAnd, MatchResult, Change, Write, Rename, Remove, places_taken, are_applicable, effects, FolderState, Folder, LeadsToAfterRequested, KeptSession, OnlyGrew, session_of_kept, changes_unless, first_entry, changes_requested, Step, step_of, takes_applicable, Vec, Global, Kind, Prepared, Changing, Moving, CanBe, Fits, HasPrintsOf, IsReady, Next, action_for, after_commit, changes_by_kind, entries_for, next_changes, next_of, prints_along, IsChanging, refusal, after, early_refusal, HasItsMd5s, IsDraft, Draft, ◌-◌, get_or, take, drop, take_all, length-drop, Option, IfSome, fingerprint, effect, folders_after, reverse, sum_by, ◌+◌, ◌++◌, append-nil, reverse-reverse, take-append-drop, length-reverse, length-take-le, reverse-append, state_after_all, takes_all, way_back, CanWalk, walks, session_with, session_unless, kept_undone, kept_redone, session_after, kept_done, Journal, Spells, halfway_where, settled_journal, halfway_journal, Two, kept_journal, moved, opposite, CompletesHalfway, SpellsReady, SpellsWhere, halfway_with, state_all_back, changes_back, takes_none, next_taken, same_session, same_ok, sum_by-take-drop, sum_by-cons, sum_by-IsPermutation, IsPermutation-reverse, MakesReady, Prepares, Replace, Fault, RepairFailed, MayRefuse, nothing_for, SessionFault, Plan, Begins, Journals}
+use Rattle.par2_journal.proofs.Common.{Action, Command, Do, Repair, ◌≡◌, ◌≢◌, inl, inr, ◌⊎◌, ℕ, Bool, ◌<◌, ◌≤◌, List, [], ◌∷◌, length, map, None, Some, IsTrue, Result, Ok, Err, true, refl, sym, ap, subst, ◌∙◌, arith, IfOk, IfErr, IsErrAnd, MatchResult, Change, are_applicable, effects, FolderState, Folder, LeadsToAfterRequested, KeptSession, OnlyGrew, session_of_kept, changes_unless, first_entry, changes_requested, Step, step_of, takes_applicable, Vec, Global, Kind, Prepared, Changing, Moving, CanBe, Fits, HasPrintsOf, IsReady, Next, action_for, after_commit, changes_by_kind, entries_for, next_changes, next_of, prints_along, IsChanging, refusal, after, early_refusal, HasItsMd5s, IsDraft, Draft, ◌-◌, get_or, take, drop, Option, IfSome, fingerprint, effect, folders_after, reverse, ◌+◌, ◌++◌, append-nil, reverse-reverse, take-append-drop, length-reverse, length-take-le, reverse-append, state_after_all, takes_all, way_back, CanWalk, walks, session_with, session_unless, kept_undone, kept_redone, session_after, kept_done, Journal, Spells, halfway_where, settled_journal, halfway_journal, Two, kept_journal, moved, opposite, CompletesHalfway, SpellsReady, SpellsWhere, halfway_with, state_all_back, changes_back, takes_none, next_taken, same_session, same_ok, MakesReady, Prepares, Fault, RepairFailed, MayRefuse, nothing_for, SessionFault, Plan, Begins, Journals, places_within}
 use Rattle.par2_spec.specs.declared.Fault.TheVariants.{Memory}
 use Rattle.par2_journal.proofs.Entries.{command_done, move_requested, move_done, at, back_length}
 use Rattle.par2_spec.specs.Plans as plans
@@ -34,14 +34,6 @@ prepares (Err fault) (Err e) old new command action requested is made = subst (�
   nothing_to_undo = λ requested none. absurd (cc);
   nothing_to_redo = λ requested none. absurd (cc);
 })
-
--- each write takes one place
-pub places_within : (changes : List Change) → places_taken changes ≤ length changes
-places_within [] = omega arith
-places_within (Write name bytes ∷ changes) = omega (arith, places_within changes)
-places_within (Replace name bytes ∷ changes) = omega (arith, places_within changes)
-places_within (Rename from to ∷ changes) = omega (arith, places_within changes)
-places_within (Remove name ∷ changes) = omega (arith, places_within changes)
 
 -- there is room for changes that can be applied
 pub can_change : (old new : KeptSession) (changes : List Change) → OnlyGrew old new → are_applicable old.folder.files changes ≡ true → length changes ≤ new.folder.vacant → 0 < new.room → CanBe (Changing changes) new
@@ -161,32 +153,11 @@ at_end prints f cs is =
     let count : length (prints_along f cs) - 1 ≡ length cs = omega (arith, folders_count f cs) in
     ap (λ l. get_or l (length l - 1) []) is ∙ ap (λ n. get_or (prints_along f cs) n []) count ∙ print_at_end f cs []
 
--- those after the first one
-pub each_after : (prints : List (List ℕ)) (f : Folder) (cs : List Change) → prints ≡ prints_along f cs → take (length prints - 1) (drop 1 prints) ≡ map fingerprint (folders_after f cs)
-each_after prints f cs is = take_all (length prints - 1) (drop 1 prints) (omega (arith, length-drop 1 prints)) ∙ ap (drop 1) is
-
 -- the fingerprints along the next undo or redo depend on files and entries alone
 pub along_still : (along : Option (Next × Vec (List ℕ) Global)) (old new : KeptSession) → OnlyGrew old new
     → IfSome along (λ found. found.1.items ≡ prints_along old.folder.files (next_changes found.0 old)) → IfSome along (λ found. found.1.items ≡ prints_along new.folder.files (next_changes found.0 new))
 along_still None old new grew h = tt
 along_still (Some found) old new grew h = h ∙ (λ i. prints_along (sym grew.files i) (next_of (sym (same_entries found.0 old new grew) i)))
-
--- Entries that can be those of a session.
-
--- the places of one side are among those of all
-pub places_before : (es : List (List Change)) (n : ℕ) → sum_by places_taken (reverse (take n es)) ≤ sum_by places_taken es
-places_before es n =
-    let same : sum_by places_taken (reverse (take n es)) ≡ sum_by places_taken (take n es) = sum_by-IsPermutation places_taken (take n es) (reverse (take n es)) (IsPermutation-reverse (take n es)) in
-    omega (arith, same, sum_by-take-drop places_taken es n)
-
-pub places_behind : (es : List (List Change)) (n : ℕ) → sum_by places_taken (drop n es) ≤ sum_by places_taken es
-places_behind es n = omega (arith, sum_by-take-drop places_taken es n)
-
--- a change takes one place at most
-pub places_counted : (es : List (List Change)) → sum_by places_taken es ≤ sum_by length es
-places_counted [] = omega arith
-places_counted (e ∷ es) =
-    omega (arith, sum_by-cons places_taken e es, sum_by-cons length e es, places_within e, places_counted es)
 
 -- A session's journals, and sessions before and after an undo or redo.
 

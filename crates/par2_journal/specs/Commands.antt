@@ -1,18 +1,18 @@
 -- Results of commands, actions and openings, and their effects on a session.
-use Rattle.std.specs.Prelude.{◌≡◌, ◌≤◌, ◌≢◌, ◌⊎◌, zero, suc, Bool, List, ℕ, [], ◌∷◌, length, take, drop, reverse, position, map, String, Vec, Option, Some, None, true, Ok, Err, Result, IfErr, IfOk, IsErrOf, IsTrue, IsFalse, OnErr, OnOk, MatchResult}
+use Rattle.std.specs.Prelude.{◌≡◌, ◌≢◌, ◌⊎◌, zero, suc, Bool, List, ℕ, [], map, String, Some, Ok, Err, Result, IfErr, IfOk, IsErrOf, IsTrue, OnErr, OnOk, MatchResult}
 use Rattle.std.specs.declared.alloc.Global.{Global}
-use Rattle.par2_spec.specs.Prelude.{bytes_eq, Change, FolderState, Action, Command, Do, Undo, Redo, Folder, fingerprint, leads_through, FailsAs, RefusesEarly, AreFewFor, LeadsToAfterRequested, early_refusal_of, KeptSession, OnlyGrew, Session, session_of_kept, session_after, changes_requested, history_of, kept_undone, Step, step_of}
+use Rattle.par2_spec.specs.Prelude.{bytes_eq, Change, FolderState, Action, Command, Do, Undo, Redo, Folder, fingerprint, FailsAs, RefusesEarly, AreFewFor, LeadsToAfterRequested, early_refusal_of, KeptSession, OnlyGrew, Session, session_of_kept, session_after, changes_requested, history_of, kept_undone, Step, step_of}
 use Rattle.par2_spec.specs.History as history
 use Rattle.par2_spec.specs.Opening as defined
 pub use Rattle.par2_spec.specs.Prelude.{repair_of}
 use Rattle.par2_spec.specs.declared.Fault.{Fault}
 use Rattle.par2_spec.specs.declared.Fault.TheVariants as faults
 use Rattle.par2_spec.specs.declared.JournalFault.{JournalFault}
-use Rattle.par2_spec.specs.declared.JournalFault.TheVariants.{FolderChanged, JournalInvalid, Memory}
-use Rattle.par2_files.specs.declared.change.Change as given
+use Rattle.par2_spec.specs.declared.JournalFault.TheVariants.{JournalInvalid, Memory}
 use Rattle.par2_verify.specs.Findings.{words}
 use Rattle.par2_repair.specs.Repairing.{WritesAsDescribed}
 use Rattle.par2_journal_format.specs.Journals.{IsSealed, changes_in}
+use Rattle.par2_journal_format.specs.Walking.{FailsTest}
 use Rattle.par2_journal.specs.Sessions.{IsReady, next_of}
 use Rattle.par2_journal.specs.declared.commands.Prepared.{Prepared}
 use Rattle.par2_journal.specs.declared.commands.SessionFault.{SessionFault}
@@ -103,14 +103,6 @@ pub record UndosGiveBack (n : ℕ) (before here : KeptSession) : Type 0 where
 
 -- ---- openings
 
--- the session with these entries, of which the first n are undos, the oldest first
-abbrev pub session_at : Folder → ℕ → List (List Change) → Session
-session_at folder n entries = record { folder = folder; undos = reverse (take n entries); redos = drop n entries }
-
--- whether changes apply and lead through folders with these fingerprints
-abbrev pub go_through : Folder → List given.Change → List (List ℕ) → Bool
-go_through folder way prints = leads_through folder (changes_in way) prints
-
 -- whether the folder has this fingerprint
 abbrev pub has_print : Folder → List ℕ → Bool
 has_print folder print = bytes_eq (fingerprint folder) print
@@ -127,24 +119,6 @@ way_left halfway = changes_in halfway.back.items
 abbrev pub opened_of : Opened → defined.Opened
 opened_of (opening.Settled session) = defined.Settled (session_of_kept session)
 opened_of (opening.Halfway halfway) = defined.Halfway (session_of_kept (session_before halfway)) (way_left halfway)
-
--- the first index of the folder's fingerprint in a journal: 0 before the command, n after its n-th change
-abbrev pub place_among : Folder → List ℕ → List (List ℕ) → Option ℕ
-place_among folder print prints = position (bytes_eq (fingerprint folder)) (print ∷ prints)
-
--- the fingerprints to go back by: those before that index, the last one first
-pub record LeadBack (folder : Folder) (print : List ℕ) (prints : List (List ℕ)) (back : Vec (List ℕ) Global) : Type 0 where
-  pub place : place_among folder print prints ≡ Some (length back.items)
-  pub list : back.items ≡ reverse (take (length back.items) (print ∷ prints))
-  pub within : length back.items ≤ length prints
-
--- why there are no fingerprints to go back by: the folder's isn't among them, or memory ran out
-abbrev pub HasNoPlace : Folder → List ℕ → List (List ℕ) → JournalFault → Type 0
-HasNoPlace folder print prints fault = (fault ≡ Memory) ⊎ ((fault ≡ FolderChanged true) × (place_among folder print prints ≡ None))
-
--- why a journal doesn't pass a test: it failed, or memory ran out
-abbrev pub FailsTest : Bool → JournalFault → Type 0
-FailsTest test fault = (fault ≡ Memory) ⊎ ((fault ≡ JournalInvalid) × IsFalse test)
 
 -- the result is the session that is wanted, if this test is passed; otherwise a fault, and the folder with the same
 -- files
@@ -173,8 +147,3 @@ pub record AnswersOpening (folder : FolderState) (bytes : List ℕ) (result : Re
   pub unsealed : ¬ (IsSealed bytes) → MatchResult result (λ _. ⊥) (λ e. e.0 ≡ JournalInvalid)
   -- the folder is returned, names and bytes as they were
   pub files : IfErr result (λ e. e.1.files ≡ folder.files)
-
--- a folder with this journal opens as a session on the folder as it is, with its history or a new one
-abbrev pub OpensAsIs : Folder → List ℕ → Type 0
-OpensAsIs folder bytes =
-    (started : defined.Started) × defined.OpensAs folder (Some bytes) (Ok started) × (started.session.folder ≡ folder)

@@ -1,1 +1,1 @@
-pub use Rattle.par2_journal.specs.Commands.{OpensAsIs, opened_of, session_before, way_left}
+pub use Rattle.par2_journal.specs.Commands.{opened_of, session_before, way_left}

@@ -1,8 +1,7 @@
--- Entries that are applied one after the other, prepared actions, and sessions by their fields.
-use Rattle.std.specs.Prelude.{◌≡◌, ℕ, Bool, cond, List, take, drop, reverse, unwrap_or, IsTrue, ◌≢◌, ◌<◌, [], ◌∷◌, map, Ok, IfSome, ◌-◌, ◌≤◌, length, vec_len, vec_capacity, Option, Some, None, Vec}
-use Rattle.par2_spec.specs.Prelude.{get_by, bytes_eq, slice_cmp, nat_cmp, Folder, has, fingerprint, Change, FolderState, effects, state_after_all, takes_all, folders_after, walks, KeptSession, session_of_kept, session_after, changes_requested, kept_done, kept_undone, kept_redone, CanWalk, Action, Undo, Redo, Journal, Spells, settled_journal, halfway_where, step_of}
+-- Undo and redo, prepared actions, and sessions by their fields.
+use Rattle.std.specs.Prelude.{◌≡◌, ℕ, List, take, drop, reverse, IsTrue, ◌≢◌, ◌<◌, [], ◌∷◌, map, Ok, IfSome, ◌-◌, ◌≤◌, length, vec_len, vec_capacity, Option, Some, None, Vec}
+use Rattle.par2_spec.specs.Prelude.{Change, takes_all, KeptSession, session_of_kept, session_after, changes_requested, kept_done, kept_undone, kept_redone, CanWalk, Action, Undo, Redo, Journal, Spells, settled_journal, halfway_where, step_of}
 use Rattle.std.specs.declared.alloc.Global.{Global}
-use Rattle.par2_journal.specs.declared.opening.Names.{Names}
 use Rattle.par2_spec.specs.declared.Version.TheVariants.{Two}
 use Rattle.par2_journal.specs.declared.opening.Next.{Next}
 use Rattle.par2_journal.specs.declared.commands.Kind.{Kind}
@@ -10,38 +9,10 @@ use Rattle.par2_journal.specs.declared.commands.Kind.TheVariants.{Changing, Movi
 use Rattle.par2_journal.specs.declared.commands.Prepared.{Prepared}
 use Rattle.par2_files.specs.Checkpoints.{AreCheckpointsOf}
 use Rattle.par2_journal.specs.declared.session.Session.TheInside.{Inside}
-use Rattle.par2_journal_format.specs.Journals.{Begins, changes_in}
+use Rattle.par2_journal_format.specs.Journals.{Begins}
+use Rattle.par2_journal_format.specs.Walking.{prints_along}
 use Rattle.par2_journal.specs.declared.commands.Journals.{Journals}
-use Rattle.par2_files.specs.declared.change.Change as given
 use Rattle.par2_journal.specs.declared.opening.Next.TheVariants as next
-
--- whether the name has a file after the changes so far
-abbrev pub names_in : Names → List ℕ → Bool
-names_in names name = unwrap_or (get_by (λ k. slice_cmp nat_cmp name k.now) names.touched) (has names.folder.now.files name)
-
--- these are the names of the folder's files
-abbrev pub AreNamesOf : Folder → (List ℕ → Bool) → Type 0
-AreNamesOf files names = (name : List ℕ) → names name ≡ has files name
-
--- this name has a file or none, and the others are as before
-abbrev pub IsSet : (List ℕ → Bool) → (List ℕ → Bool) → List ℕ → Bool → Type 0
-IsSet old new name there = (other : List ℕ) → new other ≡ cond (bytes_eq name other) there (old other)
-
--- the result is right, and if it is true, these are the names of the files afterwards
-pub record IsTried (is_so : Bool) (after : Folder) (names : List ℕ → Bool) (found : Bool) : Type 0 where
-  pub reported : found ≡ is_so
-  pub are : IsTrue found → AreNamesOf after names
-
--- changes led from files to a folder, and can lead back
-pub record WentForth (old : Folder) (new : FolderState) (way back : List given.Change) : Type 0 where
-  pub files : new.files ≡ effects old (changes_in way)
-  pub taken : IsTrue (takes_all new (changes_in back))
-  pub leads : (state_after_all new (changes_in back)).files ≡ old
-
--- the entries before the cursor can be applied, the last one first, and so can the others, the first one first
-pub record EntriesWalk (folder : FolderState) (cursor : ℕ) (entries : List (List Change)) : Type 0 where
-  pub back : IsTrue (walks folder (reverse (take cursor entries)))
-  pub forth : IsTrue (walks folder (drop cursor entries))
 
 -- ---- undo and redo
 
@@ -75,10 +46,6 @@ moved next.Undo s = kept_undone s (next_of s.undos)
 moved next.Redo s = kept_redone s (next_of s.redos)
 
 -- ---- prepared actions
-
--- the fingerprints of a folder before changes and after each
-abbrev pub prints_along : Folder → List Change → List (List ℕ)
-prints_along folder changes = map fingerprint (folder ∷ folders_after folder changes)
 
 -- the changes that committing applies
 abbrev pub changes_by_kind : Kind → KeptSession → List Change

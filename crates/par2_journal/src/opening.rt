@@ -1,171 +1,22 @@
 //! Opening a folder with a journal as a session. `open_before` decodes the journal (`open_untested`). A settled one is
-//! opened by `open_settled`: `session_from` tries the entries on the folder's names, and `test_digests` compares the
-//! digests. A halfway one is opened by `open_halfway` (taking_back.rt). For a verify, `opens_as_is` digests no file.
+//! opened by `open_settled`: `session_from` tries the entries on the folder's names (`ready`), and `test_digests` compares
+//! the digests. A halfway one is opened by `open_halfway` (taking_back.rt).
 
-ghost use Rattle.std.specs.Prelude.{◌≡◌, ◌≤◌, ◌⊎◌, if◌then◌else◌, IfOk, IfErr, OnOk, length, map, Ok, None, true, false};
+ghost use Rattle.std.specs.Prelude.{◌≡◌, ◌≤◌, ◌⊎◌, if◌then◌else◌, IfErr, OnOk, length, None, true, false};
 ghost use Rattle.md5.specs.Md5.{md5};
-ghost use Rattle.par2_spec.specs.Prelude.{are_applicable, Opens, is_valid, leads, opened_by_part};
+ghost use Rattle.par2_spec.specs.Prelude.{Opens, is_valid, opened_by_part};
 ghost use Rattle.par2_spec.specs.declared.JournalFault.TheVariants.{JournalInvalid, FolderChanged, Memory};
-ghost use Rattle.par2_journal_format.specs.Journals.{AreCounted, IsSealed, changes_in, journal_of};
-ghost use Rattle.std.specs.List.{sum_by};
-ghost use Rattle.par2_journal.specs.Commands.{AnswersOpening, AnswersTest, AnswersWhere, IsReportedWhere, OpensAsIs, has_print, session_at};
-ghost use Rattle.par2_journal.specs.Sessions.{EntriesWalk};
+ghost use Rattle.par2_journal_format.specs.Journals.{AreCounted, IsSealed, journal_of};
+ghost use Rattle.par2_journal.specs.Commands.{AnswersOpening, AnswersTest, AnswersWhere, IsReportedWhere, has_print};
+ghost use Rattle.par2_journal_format.specs.Walking.{session_at};
 
 use crate::taking_back::{Halfway, open_halfway};
 use crate::{Changes, Session};
 use md5::{Digest, Md5};
-use par2_files::{Change, Folder, Name};
-use par2_journal_format::{Journal, decode, decode_untested, is_sealed};
+use par2_files::Folder;
+use par2_journal_format::{Journal, decode_untested, is_sealed, ready};
 use par2_spec::{JournalFault, Result};
 use std::alloc::{AllocError, Global};
-use std::collections::BTreeMap;
-
-// Changes and entries are tried on the names of files alone.
-
-// The names of a folder's files after some changes.
-#[derive(Drop)]
-pub struct Names<'a> {
-    folder: &'a Folder,
-    // For each name that a change touched, whether it has a file.
-    touched: BTreeMap<&'a Name, bool>,
-}
-
-impl<'a> Names<'a> {
-    ghost use Rattle.std.specs.Prelude.{◌≡◌, OnOk, IfOk};
-    ghost use Rattle.par2_spec.specs.Changes.{are_applicable, effect, effects, is_applicable};
-    ghost use Rattle.par2_spec.specs.Folders.{Folder as Files};
-    ghost use Rattle.par2_files.specs.Folders.{change_of};
-    ghost use Rattle.par2_journal_format.specs.Journals.{changes_in};
-    ghost use Rattle.par2_journal.specs.Sessions.{AreNamesOf, IsSet, IsTried, names_in};
-
-    // The names before any change.
-    pub(crate) fn of(alloc: Global, folder: &'a Folder) -> Names<'a>
-        ensures { AreNamesOf folder.now.files (names_in result) }
-    {
-        let touched = BTreeMap::new(alloc);
-        Names { folder, touched }
-    }
-
-    // Whether the name has a file after the changes so far.
-    fn has(&self, name: &'a Name) -> bool
-        ensures { result ≡ names_in self.now name.now }
-    {
-        match self.touched.get(&name) {
-            Some(there) => *there,
-            None => self.folder.get(name).is_some(),
-        }
-    }
-
-    // Records that the name has a file now (`there`), or that it has none; other names stay (`IsSet`).
-    fn set(&mut self, name: &'a Name, there: bool) -> Result<()>
-        ensures { OnOk result (IsSet (names_in self.old) (names_in self.new) name.now there) }
-    {
-        self.touched.insert(name, there)?;
-        Ok(())
-    }
-
-    // Whether the change can be made after the changes so far, by the names alone. `AreNamesOf`: the files have these
-    // names.
-    #[tactic(auto, unfolding(par2_spec::specs::Changes::is_applicable))]
-    fn can_take(&self, change: &'a Change) -> bool
-        ensures { (files : Files) → AreNamesOf files (names_in self.now) →
-            result ≡ is_applicable files (change_of change.now) }
-    {
-        match change {
-            Change::Write(name, _) => !self.has(name),
-            Change::Replace(name, _) | Change::Remove(name) => self.has(name),
-            Change::Rename(from, to) => self.has(from) && !self.has(to),
-        }
-    }
-
-    // Records which names have a file after a change that can be made.
-    fn take(&mut self, change: &'a Change) -> Result<()>
-        ensures { (files : Files) → AreNamesOf files (names_in self.old) →
-            OnOk result (AreNamesOf (effect files (change_of change.now)) (names_in self.new)) }
-    {
-        match change {
-            Change::Write(name, _) => self.set(name, true),
-            Change::Replace(name, _) => self.set(name, true),
-            Change::Rename(from, to) => {
-                self.set(from, false)?;
-                self.set(to, true)
-            }
-            Change::Remove(name) => self.set(name, false),
-        }
-    }
-
-    // Records the changes in order, up to the first that can't be made. Returns whether all could be. `IsTried`: the
-    // result is right, and if it is true, the names are those after all changes.
-    pub(crate) fn go_along(&mut self, changes: &'a [Change]) -> Result<bool>
-        ensures { let changes = changes_in changes.now in
-            let new = names_in self.new in
-            (files : Files) → AreNamesOf files (names_in self.old) →
-            IfOk result (IsTried (are_applicable files changes) (effects files changes) new) }
-    {
-        for change in changes {
-            if !self.can_take(change) {
-                return Ok(false);
-            }
-            self.take(change)?;
-        }
-        Ok(true)
-    }
-}
-
-// Whether the entries' changes can be made one after the other, each entry's on the folder that the one before it
-// leaves. They are tried on the folder's names. Opening tries the undos of a journal, and then its redos.
-fn can_walk(alloc: Global, folder: &Folder, entries: &[&Changes]) -> Result<bool>
-    ensures { IfOk result (λ x. x ≡ leads folder.now.files (map (λ e. e.now) entries.now)) }
-{
-    let mut names = Names::of(alloc, folder);
-    for entry in entries {
-        if !names.go_along(entry.as_slice())? {
-            return Ok(false);
-        }
-    }
-    Ok(true)
-}
-
-// Whether a session on the folder can have these entries and this cursor: all undos can be applied, the newest first,
-// and from the same folder all redos.
-fn are_valid(alloc: Global, folder: &Folder, entries: &[Changes], cursor: usize) -> Result<bool>
-    requires { cursor ≤ length entries.now }
-    ensures { IfOk result (λ x. x ≡ is_valid (session_at folder.now.files cursor entries.now)) }
-{
-    let undos: Vec<&Changes> = entries[..cursor].iter().rev().collect(alloc)?;
-    let redos: Vec<&Changes> = entries[cursor..].iter().collect(alloc)?;
-    Ok(can_walk(alloc, folder, &undos)? && can_walk(alloc, folder, &redos)?)
-}
-
-// How many changes the entries have in all: none adds more than one file, so room for that many files is enough.
-fn change_count(entries: &[Changes]) -> usize
-    requires { AreCounted entries.now }
-    ensures { result ≡ sum_by length entries.now }
-{
-    let mut count = 0;
-    for entry in entries {
-        count += entry.len();
-    }
-    count
-}
-
-// Reserves room for all changes of the entries, and returns whether the entries are valid.
-fn settle(alloc: Global, folder: &mut Folder, entries: &[Changes], cursor: usize) -> Result<bool>
-    // A usize counts the changes, so that room can be reserved for them.
-    requires cursor { cursor ≤ length entries.now }
-    requires counted { AreCounted entries.now }
-    // The folder's files are as before, even if memory runs out.
-    ensures files { folder.new.files ≡ folder.old.files }
-    ensures vacant { folder.old.vacant ≤ folder.new.vacant }
-    // The result says whether the entries are valid. If they are, the folder has room for every
-    // undo and redo.
-    ensures valid { let session = session_at folder.old.files cursor entries.now in
-        IfOk result (λ x. x ≡ is_valid session) }
-    ensures walks { result ≡ Ok true → EntriesWalk folder.new cursor entries.now }
-{
-    folder.reserve(change_count(entries))?;
-    are_valid(alloc, folder, entries, cursor)
-}
 
 // A session with these entries from a journal if they can be applied to the folder; otherwise JournalInvalid, or
 // Memory, and the folder. `AnswersTest`: the session if the test is passed, otherwise a fault and the same files.
@@ -181,14 +32,12 @@ pub(crate) fn session_from(
         AnswersTest folder (is_valid wanted) wanted result }
     ensures vacant { IfErr result (λ e. folder.vacant ≤ e.1.vacant) }
 {
-    match settle(alloc, &mut folder, &entries, cursor) {
+    match ready(alloc, &mut folder, &entries, cursor) {
         Ok(true) => Ok(Session::from_entries(folder, entries, cursor)),
         Ok(false) => Err((JournalFault::JournalInvalid, folder)),
         Err(AllocError) => Err((JournalFault::Memory, folder)),
     }
 }
-
-// The opening itself.
 
 /// The result of opening a folder with a journal.
 #[derive(Drop)]
@@ -326,23 +175,6 @@ impl Session {
             Ok(opened) => Ok(opened),
         }
     }
-}
-
-/// For a verify: whether a folder with this journal opens as a session on the folder as it is. Its files aren't
-/// digested, so that session has the journal's history or a new one. False says nothing: the folder has to be opened.
-pub fn opens_as_is(alloc: Global, folder: &Folder, bytes: &[u8]) -> Result<bool>
-    ensures opens { result ≡ Ok true → OpensAsIs folder.now.files bytes.now }
-    ensures unsealed { ¬ (IsSealed bytes.now) → result ≡ Ok false }
-{
-    let journal = match decode(alloc, bytes) {
-        Ok(journal) => journal,
-        Err(JournalFault::Memory) => return Err(AllocError),
-        Err(_) => return Ok(false),
-    };
-    if journal.halfway.is_some() {
-        return Ok(false);
-    }
-    are_valid(alloc, folder, &journal.entries, journal.cursor)
 }
 
 /// The action that comes next, for which an opening computes fingerprints.

@@ -69,10 +69,9 @@ impl Session {
     ghost use Rattle.par2_files.specs.Checkpoints.{AreCheckpointsOf};
     ghost use Rattle.par2_files.specs.Folders.{change_of};
     ghost use Rattle.par2_journal_format.specs.Journals.{journal_from};
-    ghost use Rattle.par2_journal.specs.Commands.{session_at};
-    ghost use Rattle.par2_journal.specs.Sessions.{CanBe, Fits, HasPrintsOf, after_commit, changes_by_kind, entries_for, kept_journal, moved, next_changes, next_of, prints_along};
+    ghost use Rattle.par2_journal_format.specs.Walking.{EntriesWalk, prints_along, session_at};
+    ghost use Rattle.par2_journal.specs.Sessions.{CanBe, Fits, HasPrintsOf, after_commit, changes_by_kind, entries_for, kept_journal, moved, next_changes, next_of};
     ghost use Rattle.par2_journal.specs.Sessions.{SpellsReady};
-    ghost use Rattle.par2_journal.specs.Sessions.{EntriesWalk};
     ghost use Rattle.par2_journal.specs.declared.commands.Kind.TheVariants.{Changing, Moving};
 
     /// A session on this folder, without a history: there is no journal, or its history is dropped or not needed.

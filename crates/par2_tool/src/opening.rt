@@ -2,7 +2,8 @@
 //! drops the history of a changed folder (`without_journal`) or takes back a halfway command in the store
 //! (`take_back`).
 ghost use Rattle.std.specs.Prelude.{◌≡◌, Err, IfErr, IfOk, IsErr, Ok, Some, option_map, true};
-ghost use Rattle.par2_journal.specs.Opening.{OpensAsIs, session_before, way_left};
+ghost use Rattle.par2_journal_format.specs.Walking.{OpensAsIs};
+ghost use Rattle.par2_journal.specs.Opening.{session_before, way_left};
 ghost use Rattle.par2_spec.specs.Prelude.{new_session, started, session_of_kept};
 ghost use Rattle.par2_disk.specs.Stores.{OnlyReads};
 ghost use Rattle.par2_tool.specs.OpenedStores.{IsUnopened, IsVerifyGiven, KeepsStore, OpensFor, OpensStore, Starts, TakesWayBack, WasRead, refused_as, started_of, unopened_as};

@@ -1,6 +1,6 @@
-use Rattle.par2_journal.proofs.Names.{effect, bytes_of, on_ok_weaker, names_in, put_in, taken_out}
+use Rattle.par2_journal_format.proofs.Names.{effect, bytes_of, on_ok_weaker, names_in, put_in, taken_out}
 use Rattle.std.specs.FinMap as map_of
-use Rattle.par2_journal.proofs.opening.Names.take.Goals as goal
+use Rattle.par2_journal_format.proofs.walking.Names.take.Goals as goal
 
 pub returns-in-Write : goal.returns-in-Write
 unfolding effect

@@ -1,5 +1,5 @@
-use Rattle.par2_journal.proofs.Names.{ap₂, Change, List, ◌+◌, take_all, length, sym, ap, ◌∙◌, arith, sum_by, sum_by_more, sum_by_more_le}
-use Rattle.par2_journal.proofs.opening.change_count.Goals as goal
+use Rattle.par2_journal_format.proofs.Names.{ap₂, Change, List, ◌+◌, take_all, length, sym, ap, ◌∙◌, arith, sum_by, sum_by_more, sum_by_more_le}
+use Rattle.par2_journal_format.proofs.walking.change_count.Goals as goal
 
 pub loop-entry-preserved : goal.loop-entry-preserved
 loop-entry-preserved c =

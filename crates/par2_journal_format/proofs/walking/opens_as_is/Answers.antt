@@ -1,5 +1,5 @@
-use Rattle.par2_journal.proofs.Names.{◌≡◌, sym, ap, subst, ◌∙◌, IfOk, is_valid, halfway_of, journal_of, session_at, none_if, settled_as_is}
-use Rattle.par2_journal.proofs.opening.opens_as_is.Goals as goal
+use Rattle.par2_journal_format.proofs.Names.{◌≡◌, sym, ap, subst, ◌∙◌, IfOk, is_valid, halfway_of, journal_of, session_at, none_if, settled_as_is}
+use Rattle.par2_journal_format.proofs.walking.opens_as_is.Goals as goal
 
 pub returns-clause-opens : goal.returns-clause-opens
 returns-clause-opens c reported_so =

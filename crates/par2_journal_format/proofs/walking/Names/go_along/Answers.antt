@@ -1,5 +1,6 @@
-use Rattle.par2_journal.proofs.Names.{◌+◌, drop, sym, ap, ◌∙◌, subst, false≢true, change_of, changes_in, effect, AreNamesOf, names_in, sets_out, goes_on, here, ends, tried, change_made, change_refused, all_made}
-use Rattle.par2_journal.proofs.opening.Names.go_along.Goals as goal
+use Rattle.par2_journal_format.proofs.Names.{◌+◌, drop, sym, ap, ◌∙◌, subst, false≢true, change_of, changes_in, effect, AreNamesOf, names_in}
+use Rattle.par2_journal_format.proofs.TriedNames.{sets_out, goes_on, here, ends, tried, change_made, change_refused, all_made}
+use Rattle.par2_journal_format.proofs.walking.Names.go_along.Goals as goal
 
 pub loop-change-init : goal.loop-change-init
 loop-change-init c files are = sets_out change_of tried files c.args.changes.now _ are

@@ -1,8 +1,8 @@
-use Rattle.par2_journal.proofs.Names.{◌≡◌, ◌≤◌, ◌-◌, take, drop, true, Bool, inr, refl, length, sym, ap, ◌∙◌, arith, pointwise, bytes_eq, length-map, not-false, not-true, FolderState, takes_all, are_applicable, takes_applicable, leads_through, change_of, changes_in, goes, goes_not, each_after, places_within, went_forth}
+use Rattle.par2_journal_format.proofs.Names.{◌≡◌, ◌≤◌, ◌-◌, take, drop, true, Bool, inr, refl, length, sym, ap, ◌∙◌, arith, pointwise, bytes_eq, length-map, not-false, not-true, FolderState, takes_all, are_applicable, takes_applicable, leads_through, change_of, changes_in, goes, goes_not, each_after, places_within, went_forth}
 use Rattle.std.specs.Prelude.{List}
 use Rattle.par2_files.specs.declared.change.Change.{Change}
-use Rattle.par2_journal.proofs.taking_back.go_back.Goals.{After-ne}
-use Rattle.par2_journal.proofs.taking_back.go_back.Goals as goal
+use Rattle.par2_journal_format.proofs.walking.go_back.Goals.{After-ne}
+use Rattle.par2_journal_format.proofs.walking.go_back.Goals as goal
 
 -- changes that can be made are taken if there is a place for each
 taken : (folder : FolderState) (way : List Change) (can : Bool) → can ≡ are_applicable folder.files (changes_in way) → can ≡ true → length way ≤ folder.vacant → takes_all folder (changes_in way) ≡ true

@@ -1,5 +1,5 @@
-use Rattle.par2_journal.proofs.Common.{◌≡◌, ◌-◌, ap, sym, ◌∙◌, arith, length, map, drop, drop-map, take_all, length-drop, change_of}
-use Rattle.par2_journal.proofs.taking_back.way_back.Goals as goal
+use Rattle.par2_journal_format.proofs.Common.{◌≡◌, ◌-◌, ap, sym, ◌∙◌, arith, length, map, drop, drop-map, take_all, length-drop, change_of}
+use Rattle.par2_journal_format.proofs.walking.way_back.Goals as goal
 
 pub returns-clause-back : goal.returns-clause-back
 returns-clause-back c =

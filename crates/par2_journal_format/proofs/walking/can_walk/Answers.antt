@@ -1,5 +1,6 @@
-use Rattle.par2_journal.proofs.Names.{◌+◌, List, drop, map, sym, ◌∙◌, Bor, Change, effects, leads, goes_on, here, ends, entry_made, entry_refused, all_entries_made}
-use Rattle.par2_journal.proofs.opening.can_walk.Goals as goal
+use Rattle.par2_journal_format.proofs.Names.{◌+◌, List, drop, map, sym, ◌∙◌, Bor, Change, effects, leads}
+use Rattle.par2_journal_format.proofs.TriedNames.{goes_on, here, ends, entry_made, entry_refused, all_entries_made}
+use Rattle.par2_journal_format.proofs.walking.can_walk.Goals as goal
 
 pub returns-then-not-branch : goal.returns-then-not-branch
 returns-then-not-branch c =

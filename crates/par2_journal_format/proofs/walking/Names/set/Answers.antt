@@ -1,5 +1,5 @@
-use Rattle.par2_journal.proofs.Common.{◌≡◌, Bool, true, false, Option, Some, refl, ap, ◌∙◌, cond, bytes_eq, has, unwrap_or, btree_map_updates_str}
-use Rattle.par2_journal.proofs.opening.Names.set.Goals as goal
+use Rattle.par2_journal_format.proofs.Common.{◌≡◌, Bool, true, false, Option, Some, refl, ap, ◌∙◌, cond, bytes_eq, has, unwrap_or, btree_map_updates_str}
+use Rattle.par2_journal_format.proofs.walking.Names.set.Goals as goal
 
 chosen : (b : Bool) (there : Bool) (others : Option Bool) (d : Bool) → unwrap_or (cond b (Some there) others) d ≡ cond b there (unwrap_or others d)
 chosen true there others d = refl

@@ -1,5 +1,5 @@
-use Rattle.par2_journal.proofs.Names.{◌≡◌, ◌≤◌, length, take, drop, sym, subst, arith, IfOk, reverse, is_valid, leads, session_at, and_parts, leading_walks, places_before, places_behind, places_counted, sum_by}
-use Rattle.par2_journal.proofs.opening.settle.Goals as goal
+use Rattle.par2_journal_format.proofs.Names.{◌≡◌, ◌≤◌, length, take, drop, sym, subst, arith, IfOk, reverse, is_valid, leads, session_at, and_parts, leading_walks, places_before, places_behind, places_counted, sum_by}
+use Rattle.par2_journal_format.proofs.walking.ready.Goals as goal
 
 pub returns-clause-walks : goal.returns-clause-walks
 returns-clause-walks c valid =

@@ -1,7 +1,7 @@
 -- The names of a folder's files along changes.
-use Rattle.par2_journal.proofs.Common.{◌≡◌, ℕ, ◌+◌, ◌<◌, ◌≤◌, Bool, true, false, ◌&&◌, List, [], ◌∷◌, length, map, drop, get_or, Option, Some, None, refl, sym, ap, ◌∙◌, arith, cond, is_some, drop_all, length-map, bytes_eq, Folder, has, Change, are_applicable, effect, effects, is_applicable, slice_cmp, nat_list_cmp_total, written, gone, leads, is_eq-slice_cmp, AreNamesOf, IsSet, eq_by_cmp, nat_cmp, eq_by_cmp_equiv}
+use Rattle.par2_journal_format.proofs.Common.{◌≡◌, ℕ, ◌+◌, ◌<◌, ◌≤◌, Bool, true, false, ◌&&◌, List, [], ◌∷◌, length, map, drop, get_or, Option, Some, None, refl, sym, ap, ◌∙◌, arith, cond, is_some, drop_all, length-map, bytes_eq, Folder, has, Change, are_applicable, effect, effects, is_applicable, slice_cmp, nat_list_cmp_total, written, gone, leads, is_eq-slice_cmp, AreNamesOf, IsSet, eq_by_cmp, nat_cmp, eq_by_cmp_equiv}
 use Rattle.std.specs.FinMap as map_of
-use Rattle.par2_journal.proofs.Entries.{left_at}
+use Rattle.par2_journal_format.proofs.Walks.{left_at}
 
 -- ---- one change
 
