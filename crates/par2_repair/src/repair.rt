@@ -2,9 +2,9 @@
 //! rebuilds the targets without one, and lists the changes. The written files of a draft aren't checked yet: the caller
 //! digests `Draft::buffers`, and `Draft::tested` compares the MD5s and returns the changes.
 
-ghost use Rattle.std.specs.Prelude.{◌≡◌, ◌⊎◌, ◌++◌, ℕ, List, IsTrue, IfErr, IfOk, OnOk, None, Ok, map, filter_map};
+ghost use Rattle.std.specs.Prelude.{◌≡◌, ◌++◌, ℕ, List, IsTrue, IfErr, IfOk, OnOk, None, Ok, map, filter_map};
 ghost use Rattle.std.specs.Option.{option_copied};
-ghost use Rattle.par2_spec.specs.Prelude.{are_applicable, effects, AreFew, purge_changes, purge_refusal, matches, rebuilt_targets, FailsFor, Lists, FailsAs, GivesChanges, LeadsAs, RefusesEarly, SucceedsAs, repair_of, set_in, Purge, Repair};
+ghost use Rattle.par2_spec.specs.Prelude.{are_applicable, AreFew, purge_changes, purge_refusal, matches, rebuilt_targets, FailsFor, Lists, FailsAs, GivesChanges, LeadsAs, RefusesEarly, SucceedsAs, repair_of, set_in, Purge, Repair};
 ghost use Rattle.par2_repair.specs.Repairing.{HasAsides, IsDraft, bytes_written, matches_taken, names_there, place_in, removed, renamed, repair_by, writes};
 ghost use Rattle.par2_sets.specs.SetReading.{HoldsOwned, long_aside, own_files};
 ghost use Rattle.par2_verify.specs.Findings.{words};
