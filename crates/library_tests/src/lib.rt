@@ -17,6 +17,8 @@ mod gf16;
 #[cfg(test)]
 mod matrix;
 #[cfg(test)]
+mod matrix_ranks;
+#[cfg(test)]
 mod md5_lanes;
 #[cfg(test)]
 mod md5_lanes_midstates;
@@ -50,8 +52,6 @@ mod slices_matching;
 mod slices_windows;
 #[cfg(test)]
 mod solve_many_lost;
-#[cfg(test)]
-mod solve_ranks;
 #[cfg(test)]
 mod solve_rebuilds;
 #[cfg(test)]

@@ -1,31 +1,33 @@
 //! The steps of Gauss-Jordan elimination. For an offered equation, `prepare` subtracts the kept ones and scales it, and
 //! `put_in` clears its pivot's column in the kept ones and stores it. Rows and right-hand sides are bytes: element `i`
-//! of a row is the little-endian word at `2 * i`, so that one kernel adds both.
+//! of a row is the little-endian word at `2 * i`, so that one kernel adds both. `bytes_of_row` writes elements as bytes,
+//! and `rows_of` reads them.
 
-ghost use Rattle.std.specs.Prelude.{◌≡◌, ◌≢◌, ℕ, ◌+◌, ◌*◌, ◌^◌, ◌<◌, length, slice_index, IfSome, IfOk, IsNone};
+ghost use Rattle.std.specs.Prelude.{◌≡◌, ◌≢◌, ℕ, ◌+◌, ◌*◌, ◌%◌, ◌^◌, ◌<◌, length, slice_index, IfSome, IfOk, IsNone};
 ghost use Rattle.par2_spec.specs.Prelude.{word, OneChanged, lists_of, list_at};
 ghost use Rattle.par2_gf16.specs.Tables.{AddsProducts};
 ghost use Rattle.par2_matrix.specs.Echelon.{Scaled, ReducedBelow, IsReduced, IsImplied, IsPrepared, PutAt, AllEmpty, echelon_of, WordPut, HoldsRow};
+ghost use Rattle.par2_matrix.specs.LostSlices.{AreByteRows, IsUnit};
 
 use par2_gf16::{Factor, Gf};
 use par2_spec::Result;
 use std::alloc::Global;
 
-// For the prover: each byte is below 2 ^ 8.
+/// For the prover: each byte is below 2 ^ 8.
 #[inline(always)]
-fn fit_bytes(bytes: &[u8])
+pub fn fit_bytes(bytes: &[u8])
     ensures { (k : ℕ) → slice_index bytes.now k < 2 ^ 8 }
 {
     let _ = bytes.len();
 }
 
-// The bytes of list p: of the row, or of the right-hand side, of the equation with its pivot in column p.
+/// The bytes of buffer `r`: in a system, of the row or the right-hand side of the equation with its pivot in column `r`.
 #[inline(always)]
-fn list_at(lists: &[Vec<u8>], p: usize) -> &[u8]
-    requires { p < length lists.now }
-    ensures { result.now ≡ list_at (lists_of lists.now) p }
+pub fn buffer_at(buffers: &[Vec<u8>], r: usize) -> &[u8]
+    requires { r < length buffers.now }
+    ensures { result.now ≡ list_at (lists_of buffers.now) r }
 {
-    &lists[p]
+    &buffers[r]
 }
 
 /// `count` empty lists: the rows, or the right-hand sides, of a system without equations.
@@ -59,11 +61,11 @@ fn reduce(gf: &Gf, rows: &[Vec<u8>], right_sides: &[Vec<u8>], row: &mut [u8], ri
 {
     for p in 0..rows.len() {
         let factor = element(row, p);
-        let source = list_at(rows, p);
+        let source = buffer_at(rows, p);
         if factor != 0 && !source.is_empty() {
             let multiple = Factor::new(factor);
             gf.mul_add_by(&multiple, source, row);
-            gf.mul_add_by(&multiple, list_at(right_sides, p), right);
+            gf.mul_add_by(&multiple, buffer_at(right_sides, p), right);
         }
     }
 }
@@ -142,7 +144,7 @@ pub(crate) fn put_in(
         (lists_of rows.new) (lists_of right_sides.new) }
 {
     for p in 0..rows.len() {
-        let target = list_at(rows, p);
+        let target = buffer_at(rows, p);
         if !target.is_empty() {
             let factor = Factor::new(element(target, q));
             add_row(gf, rows, p, &factor, &row);
@@ -183,5 +185,45 @@ pub fn bytes_of_row(alloc: Global, row: &[u16]) -> Result<Vec<u8>>
     for i in 0..row.len() {
         put_element(&mut bytes, i, row[i]);
     }
+    Ok(bytes)
+}
+
+// The elements of a right-hand side, two bytes each. After elimination they are a row of the inverse.
+fn row_of(alloc: Global, bytes: &[u8]) -> Result<Vec<u16>>
+    requires { length bytes.now % 2 ≡ 0 }
+    ensures { IfOk result (λ row. HoldsRow row.items bytes.now (length row.items)) }
+{
+    let count = bytes.len() / 2;
+    let mut row = Vec::with_capacity(alloc, count)?;
+    for i in 0..count {
+        row.push(element(bytes, i))?;
+    }
+    Ok(row)
+}
+
+/// The elements of each right-hand side. `AreByteRows`: row r has the elements whose bytes are right-hand side r.
+pub fn rows_of(alloc: Global, sides: &[Vec<u8>]) -> Result<Vec<Vec<u16>>>
+    requires { (r : ℕ) → r < length sides.now → length (list_at (lists_of sides.now) r) % 2 ≡ 0 }
+    ensures { IfOk result
+        (λ rows. AreByteRows (lists_of rows.items) (lists_of sides.now) (length sides.now)) }
+{
+    let mut rows = Vec::with_capacity(alloc, sides.len())?;
+    for r in 0..sides.len() {
+        rows.push(row_of(alloc, buffer_at(sides, r))?)?;
+    }
+    Ok(rows)
+}
+
+/// The bytes of unit vector `i` of `n` elements (1 at place `i`, 0 elsewhere); zeros if `i` isn't below `n`.
+pub(crate) fn unit(alloc: Global, n: usize, i: usize) -> Result<Vec<u8>>
+    requires { n < 65536 }
+    ensures size { IfOk result (λ bytes. length bytes.items ≡ 2 * n) }
+    ensures unit { i < n → IfOk result (λ bytes. IsUnit n i bytes.items) }
+{
+    let mut bytes = vec![in alloc; 0u8; 2 * n]?;
+    if i >= n {
+        return Ok(bytes);
+    }
+    put_element(bytes.as_mut_slice(), i, 1);
     Ok(bytes)
 }

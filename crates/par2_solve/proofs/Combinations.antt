@@ -1,5 +1,5 @@
--- Sums of products: from added products to recovery slices, sums of sums, and the loops that add products.
-use Rattle.par2_solve.proofs.Common.{constant, pow, length-constant_powers, constant_powers, ℕ, zero, suc, ◌+◌, ◌-◌, ◌*◌, ◌%◌, ◌<◌, ◌≤◌, ◌≡◌, refl, sym, ap, ap₂, ◌∙◌, subst, arith, List, [], ◌∷◌, ◌++◌, length, get_or, map, replicate, Vec, Global, zero-add, Bor, range_with_len, get_or-map, length-map, get_or_past, get_or-map-range_with_len, length-map-range_with_len, length-range_with_len, mul, coefficient, padded, word, dot, coefficients, combination, recovery, all_at, product-lt, field_sum, list_at, lists_of, field_sum_same, field_sum-lt, dot_sum, product_at, coefficients_are, combination_words, word-lt, AreByteLists, recovered, zeros_read, byte_lists, bit_xor, product_linear_left, product_assoc, zero-product, field_sum_none, field_sum_xor, field_sum_scaled, GivesElements, inl, inr, cases_lt, xor_assoc, xor_zero_r, product-zero, AddsSource, Adds, products, by_either, take, drop, within-in, cases_eq, get_or_push, get_or_append_left, put_mid, AddsTo, AddsEach, word_of, WordVector, word_drop, words_kept, OneChanged, adds_columns, within-below}
+-- Sums of products: from added products to recovery slices, and the loops that add products.
+use Rattle.par2_solve.proofs.Common.{ℕ, zero, suc, ◌+◌, ◌-◌, ◌*◌, ◌%◌, ◌<◌, ◌≤◌, ◌≡◌, refl, sym, ap, ap₂, ◌∙◌, subst, arith, List, [], ◌∷◌, ◌++◌, length, get_or, map, replicate, Vec, Global, zero-add, Bor, range_with_len, get_or-map, length-map, get_or-map-range_with_len, length-map-range_with_len, length-range_with_len, mul, coefficient, padded, word, dot, coefficients, combination, recovery, product-lt, field_sum, list_at, lists_of, field_sum_same, field_sum-lt, coefficients_are, combination_words, word-lt, AreByteLists, recovered, zeros_read, byte_lists, bit_xor, cases_lt, xor_assoc, xor_zero_r, product-zero, AddsSource, Adds, products, by_either, take, drop, within-in, cases_eq, put_mid, AddsTo, AddsEach, word_of, WordVector, word_drop, words_kept, OneChanged, adds_columns, within-below, dot_at}
 
 -- ---- padding
 
@@ -18,25 +18,6 @@ words_padded s w [] = refl
 words_padded s w (t ∷ lists) = ap₂ (λ x xs. x ∷ xs) (word-padded s t w) (words_padded s w lists)
 
 -- ---- coefficients
-
--- past the last slice, the constant is 1
-pub constant_past : (k : ℕ) → 32768 ≤ k → constant k ≡ 1
-unfolding constant pow
-constant_past k past = ap (pow 2) (get_or_past constant_powers k 0 (omega (arith, past, length-constant_powers)))
-
-pub coefficients-lt : (numbers : List ℕ) (e k : ℕ) → get_or (coefficients numbers e) k 0 < 65536
-coefficients-lt numbers e k = all_at (λ x. x < 65536) 0 (omega arith) (coefficients numbers e) (coefficients_are e numbers) k
-
-words_of : (buffers : List (List ℕ)) (w i : ℕ) → get_or (map (word w) buffers) i 0 ≡ word w (list_at buffers i)
-words_of [] w i = refl
-words_of (t ∷ buffers) w zero = refl
-words_of (t ∷ buffers) w (suc i) = words_of buffers w i
-
--- the sum of products at a word, by index
-pub dot_at : (n : ℕ) (row : List ℕ) (buffers : List (List ℕ)) (w : ℕ) → length row ≤ n → dot row (map (word w) buffers) ≡ field_sum n (λ i. mul (get_or row i 0) (word w (list_at buffers i)))
-dot_at n row buffers w h =
-    dot_sum n row (map (word w) buffers) h
-    ∙ field_sum_same n (product_at row (map (word w) buffers)) (λ i. mul (get_or row i 0) (word w (list_at buffers i))) (λ i low. ap (mul (get_or row i 0)) (words_of buffers w i))
 
 -- a word of a recovery slice is such a sum
 pub recovered_dot : (e : ℕ) (lists : List (List ℕ)) (w : ℕ) → dot (coefficients (range_with_len 0 (length lists)) e) (map (word w) lists) ≡ recovered lists e w
@@ -86,42 +67,6 @@ rows_long n exponents xs e r low =
 
 pub length-byte_lists : (xs : List (Bor (List ℕ))) → length (byte_lists xs) ≡ length xs
 length-byte_lists xs = length-map xs (λ (x : Bor (List ℕ)). x.now)
-
--- what holds of each item of a list and of one item more
-pub each_more : {A : Type 0} (P : ℕ → A → Type 0) (d : A) (xs : List A) (x : A) (n : ℕ) → length xs ≡ n → ((i : ℕ) → i < n → P i (get_or xs i d)) → P n x
-    → (i : ℕ) → i < n + 1 → P i (get_or (xs ++ x ∷ []) i d)
-each_more P d xs x n many each here i low = by_either (cases_eq n i)
-    (λ same. subst (λ m. P m (get_or (xs ++ x ∷ []) m d)) same (subst (P n) (sym (get_or_push xs x d n many)) here))
-    (λ other. let before : i < n = omega (arith, low, other) in subst (P i) (sym (get_or_append_left xs (x ∷ []) d i (omega (arith, many, before)))) (each i before))
-
--- Sums of sums.
-
--- the order of two sums doesn't matter
-pub field_sum_swap : (n m : ℕ) (g : ℕ → ℕ → ℕ) → field_sum n (λ i. field_sum m (λ k. g i k)) ≡ field_sum m (λ k. field_sum n (λ i. g i k))
-unfolding field_sum
-field_sum_swap zero m g = sym (field_sum_none m (λ k. 0) (λ k _. refl))
-field_sum_swap (suc n) m g =
-    ap (λ s. bit_xor s (field_sum m (λ k. g n k))) (field_sum_swap n m g)
-    ∙ sym (field_sum_xor m (λ k. field_sum n (λ i. g i k)) (λ k. g n k))
-
--- a sum times an element, from the right
-pub field_sum_times : (n k : ℕ) (f : ℕ → ℕ) → field_sum n (λ i. mul (f i) k) ≡ mul (field_sum n f) k
-unfolding field_sum
-field_sum_times zero k f = sym (zero-product k)
-field_sum_times (suc n) k f =
-    ap (λ s. bit_xor s (mul (f n) k)) (field_sum_times n k f) ∙ sym ((product_linear_left k).on_xor (field_sum n f) (f n))
-
--- matrix products are associative: a combination of combinations is the combination by the combined rows
-pub combined : (n m : ℕ) (row : ℕ → ℕ) (inner : ℕ → ℕ → ℕ) (v : ℕ → ℕ) → GivesElements row → ((i : ℕ) → i < n → GivesElements (inner i)) → GivesElements v
-    → field_sum n (λ i. mul (row i) (field_sum m (λ k. mul (inner i k) (v k)))) ≡ field_sum m (λ k. mul (field_sum n (λ i. mul (row i) (inner i k))) (v k))
-combined n m row inner v are_row are_inner are_v =
-    field_sum_same n _ (λ i. field_sum m (λ k. mul (mul (row i) (inner i k)) (v k)))
-    (λ i low. sym (field_sum_scaled m (row i) (λ k. mul (inner i k) (v k)))
-    ∙ field_sum_same m (λ k. mul (row i) (mul (inner i k) (v k))) (λ k. mul (mul (row i) (inner i k)) (v k))
-    (λ k _. sym (product_assoc (row i) (inner i k) (v k) (are_row i) (are_inner i low k) (are_v k))))
-    ∙ field_sum_swap n m (λ i k. mul (mul (row i) (inner i k)) (v k))
-    ∙ field_sum_same m (λ k. field_sum n (λ i. mul (mul (row i) (inner i k)) (v k))) (λ k. mul (field_sum n (λ i. mul (row i) (inner i k))) (v k))
-    (λ k _. field_sum_times n (v k) (λ i. mul (row i) (inner i k)))
 
 -- The loops that add products.
 

@@ -1,101 +1,76 @@
--- The inverse of the kept exponents' matrix, the lost slices by their syndromes block by block, and recovery slices in outputs.
-use Rattle.par2_solve.proofs.Common.{by_either, inl, inr, ℕ, ◌+◌, ◌*◌, ◌/◌, ◌%◌, ◌<◌, ◌≤◌, ◌≡◌, ◌≢◌, refl, sym, ap, ◌∙◌, arith, cond, List, [], length, get_or, map, subst, cases_eq, eq-eqb, ne_eqb, length-map, mul, coefficient, word, dot, coefficients, field_sum, list_at, GivesElements, zero-product, product_comm, product-one, all_at, all_from, all_get, field_sum_same, field_sum_one, coefficients_are, dot-lt, words_are, bytes_at, combination_words, word-lt, Equations, IsTheSolution, AreByteRows, IsUnit, IsEliminated, IsInverseMatrix, identity, AreSolutionBuffers, combination, IsVector, AllByRecursion, ◌^◌, ◌-◌, ap₂, ◌++◌, length-append, bit_xor, drop, Bor, cases_lt, get_or-take, get_or-drop, get_or-map, get_or_append_left, get_or-append_right, length-replicate, length-take-le, length-drop, recovered, AddsToEach, chunk, syndrome, AreByteLists, AreProducts, AreSolved, AreSums, products, xor_zero_l, AreExtended, byte_lists, AreBlank, zero-add, take, range_with_len, get_or_past, get_or-map-range_with_len, padded, recovery, within, place_at, AddsAt, AreApart, LieWithin, adds_more, adds_same, within-in, within_joined, within_same, length-group, adds_to_group, words_at, Place, first_word, AreWritten, AreZeros, output_at, AreWithin, picked}
-use Rattle.par2_solve.proofs.Combinations.{all_coefficients, combined, coefficients-lt, dot_at, blank_word, length-byte_lists, recovered_by_words}
-use Rattle.par2_matrix.specs.Systems as systems
+-- The rows that a locator represents, the lost slices by their syndromes block by block, and recovery slices in outputs.
+use Rattle.par2_solve.proofs.Common.{by_either, ℕ, ◌+◌, ◌*◌, ◌/◌, ◌%◌, ◌<◌, ◌≤◌, ◌≡◌, refl, sym, ap, ◌∙◌, arith, List, [], length, get_or, map, subst, length-map, mul, coefficient, word, dot, coefficients, field_sum, list_at, all_at, all_from, field_sum_same, word-lt, IsInverseMatrix, ◌^◌, ◌-◌, ap₂, ◌++◌, length-append, bit_xor, drop, Bor, cases_lt, get_or-take, get_or-drop, get_or-map, get_or_append_left, get_or-append_right, length-replicate, length-take-le, length-drop, recovered, AddsToEach, chunk, syndrome, AreByteLists, AreProducts, AreSolved, AreSums, products, xor_zero_l, AreExtended, byte_lists, AreBlank, zero-add, take, range_with_len, get_or_past, get_or-map-range_with_len, padded, recovery, within, place_at, AddsAt, AreApart, LieWithin, adds_more, adds_same, within-in, within_joined, within_same, length-group, adds_to_group, words_at, Place, first_word, AreWritten, AreZeros, output_at, AreWithin, picked, AreSlices, suc, ext_get_or, times, with_roots, quotient, length-quotient, constant, pow, with_roots_elements, constant-lt, length-map-range_with_len, AreElements, AreFactors, locator, quotient_coefficient, dot_at, gives_back, quotient_at, constants-lt, constant_at, is_inverse, value_is_sum}
+use Rattle.par2_solve.proofs.Combinations.{blank_word, recovered_by_words, all_coefficients, length-byte_lists}
+use Rattle.par2_transform.specs.Polynomials as evaluations
 
--- ---- the identity
+-- The rows that a locator represents are the scaled quotients.
 
-identity-itself : (i : ℕ) → identity i i ≡ 1
-identity-itself i = ap (λ b. cond b 1 0) (eq-eqb i i refl)
+elements_drop : (n : ℕ) (p : List ℕ) → AreElements p → AreElements (drop n p)
+elements_drop n p h = all_from (λ c. c < 2 ^ 16) 0 (drop n p) (λ i _. subst (λ x. x < 65536) (sym (get_or-drop n p i 0)) (all_at (λ x. x < 65536) 0 (omega arith) p h (n + i)))
 
-identity-others : (i k : ℕ) → i ≢ k → identity i k ≡ 0
-identity-others i k other = ap (λ b. cond b 1 0) (ne_eqb i k other)
+-- a coefficient of the quotient, by the coefficients from 1 on
+pub coefficient_is : (c s : ℕ) (p : List ℕ) → AreElements p → c < 2 ^ 16
+    → evaluations.value (length (drop 1 p)) (evaluations.from s (λ i. get_or (drop 1 p) i 0)) c ≡ get_or (quotient c p) s 0
+coefficient_is c s p h hc =
+    let rest : length (drop 1 p) ≡ length p - 1 = length-drop 1 p in
+    let some : length (drop (suc s) p) ≡ length p - suc s = length-drop (suc s) p in
+    sym (quotient_at c p s
+    ∙ value_is_sum c (drop (suc s) p) (length (drop 1 p)) (elements_drop (suc s) p h) hc (omega (arith, rest, some))
+    ∙ field_sum_same (length (drop 1 p)) (λ t. mul (get_or (drop (suc s) p) t 0) (pow c t)) (λ t. mul (get_or (drop 1 p) (s + t) 0) (pow c t))
+    (λ t _. ap (λ x. mul x (pow c t))
+    (get_or-drop (suc s) p t 0 ∙ ap (λ i. get_or p i 0) (let e : suc s + t ≡ 1 + (s + t) = omega arith in e) ∙ sym (get_or-drop 1 p (s + t) 0))))
 
-pub identity-lt : (i k : ℕ) → identity i k < 65536
-identity-lt i k = grind (arith, cases_eq i k, identity-itself, identity-others)
+-- the rows for a polynomial's coefficients from 1 on, its roots and factors
+abbrev pub quotient_rows : (sequence points factors : List ℕ) → List (List ℕ)
+quotient_rows sequence points factors = map (λ j. map (quotient_coefficient sequence points factors j) (range_with_len 0 (length sequence))) (range_with_len 0 (length points))
 
--- a row of the identity picks one value
-pub sum_of_row : (n i : ℕ) (f : ℕ → ℕ) → i < n → GivesElements f → field_sum n (λ k. mul (identity i k) (f k)) ≡ f i
-sum_of_row n i f low are =
-    field_sum_one n i (λ k. mul (identity i k) (f k)) low (λ k h other. ap (λ x. mul x (f k)) (identity-others i k (λ e. other (sym e))) ∙ zero-product (f k))
-    ∙ ap (λ x. mul x (f i)) (identity-itself i) ∙ product_comm 1 (f i) (omega arith) (are i) ∙ product-one (f i) (are i)
+-- the row of a point is its scaled quotient
+pub row_is : (points factors p : List ℕ) (j : ℕ) → AreElements p → j < length points → get_or points j 0 < 2 ^ 16
+    → list_at (quotient_rows (drop 1 p) points factors) j ≡ times (get_or factors j 0) (quotient (get_or points j 0) p)
+row_is points factors p j h low hc =
+    let n : ℕ = length (drop 1 p) in
+    let b : ℕ = get_or factors j 0 in
+    let c : ℕ = get_or points j 0 in
+    let long : length (map (quotient_coefficient (drop 1 p) points factors j) (range_with_len 0 n)) ≡ n = length-map-range_with_len (quotient_coefficient (drop 1 p) points factors j) 0 n in
+    let quotient_long : length (quotient c p) ≡ n = length-quotient c p ∙ sym (length-drop 1 p) in
+    let size : length (times b (quotient c p)) ≡ n = length-map (quotient c p) (mul b) ∙ quotient_long in
+    get_or-map-range_with_len (λ i. map (quotient_coefficient (drop 1 p) points factors i) (range_with_len 0 n)) 0 (length points) j j [] low (omega arith)
+    ∙ ext_get_or 0 (map (quotient_coefficient (drop 1 p) points factors j) (range_with_len 0 n)) (times b (quotient c p)) (long ∙ sym size)
+    (λ s here.
+    get_or-map-range_with_len (quotient_coefficient (drop 1 p) points factors j) 0 n s s 0 (omega (arith, here, long)) (omega arith)
+    ∙ ap (mul b) (coefficient_is c s p h hc)
+    ∙ sym (get_or-map (mul b) (quotient c p) s 0 0 (omega (arith, here, long, quotient_long))))
 
--- ---- the solution for unit vectors is the inverse
+-- with Forney's factors the rows are the inverse for a run
+pub located_inverse : (ks : List ℕ) (f : ℕ) (factors : List ℕ) → AreSlices ks → AreFactors f ks factors (length ks) → IsInverseMatrix ks (range_with_len f (length ks)) (quotient_rows (drop 1 (locator ks)) (map constant ks) factors)
+located_inverse ks f factors are given =
+    let points : List ℕ = map constant ks in
+    let p : List ℕ = with_roots (map constant ks) in
+    let many : length (map constant ks) ≡ length ks = length-map ks constant in
+    is_inverse ks f factors (quotient_rows (drop 1 p) points factors) are given
+    (length-map-range_with_len (λ i. map (quotient_coefficient (drop 1 p) points factors i) (range_with_len 0 (length (drop 1 p)))) 0 (length points) ∙ many)
+    (λ j low.
+    row_is points factors p j (with_roots_elements points (constants-lt ks)) (omega (arith, low, many)) (subst (λ x. x < 65536) (sym (constant_at ks j low)) (constant-lt (get_or ks j 0)))
+    ∙ ap (λ c. times (get_or factors j 0) (quotient c p)) (constant_at ks j low))
 
-unit_bytes : (n i : ℕ) (bytes : List ℕ) → IsUnit n i bytes → (k : ℕ) → get_or bytes k 0 < 256
-unit_bytes n i bytes is k =
-    let p = k / 2 in
-    let small : word p bytes < 2 = by_either (cases_eq p i)
-    (λ same. (let e : word p bytes ≡ 1 = ap (λ q. word q bytes) same ∙ is.one in omega (arith, e)))
-    (λ other. (let e : word p bytes ≡ 0 = is.zeros p other in omega (arith, e))) in
-    by_either (cases_eq (k % 2) 0)
-    (λ even. (let e : k ≡ 2 * p = omega arith in let at : get_or bytes k 0 ≡ get_or bytes (2 * p) 0 = ap (λ q. get_or bytes q 0) e in omega (arith, at, small)))
-    (λ odd. (let e : k ≡ 2 * p + 1 = omega arith in let at : get_or bytes k 0 ≡ get_or bytes (2 * p + 1) 0 = ap (λ q. get_or bytes q 0) e in omega (arith, at, small)))
-
-unit_word : (n j : ℕ) (unit : List ℕ) (k : ℕ) → IsUnit n j unit → word k unit ≡ identity j k
-unit_word n j unit k is = by_either (cases_eq k j)
-    (λ same. subst (λ m. word m unit ≡ identity j m) (sym same) (is.one ∙ sym (identity-itself j)))
-    (λ other. is.zeros k other ∙ sym (identity-others j k (λ e. other (sym e))))
-
--- the elements of buffers of n words
-pub row_long : (n : ℕ) (system : Equations) (buffers rows : List (List ℕ)) → AreSolutionBuffers system buffers → system.bytes ≡ 2 * n → AreByteRows rows buffers (length buffers) → (i : ℕ) → i < length buffers → length (list_at rows i) ≡ n
-row_long n system buffers rows are_buffers bytes are i h =
-    let size = (are.each i h).size in
-    let all = all_get (λ (content : List ℕ). length content ≡ system.bytes) buffers i [] h are_buffers.sizes in
-    omega (arith, size, all, bytes)
-
-pub row_read : (n : ℕ) (system : Equations) (buffers rows : List (List ℕ)) → AreSolutionBuffers system buffers → system.bytes ≡ 2 * n → AreByteRows rows buffers (length buffers) → (i k : ℕ) → i < length buffers → k < n → word k (list_at buffers i) ≡ get_or (list_at rows i) k 0
-row_read n system buffers rows are_buffers bytes are i k hi hk = let size = row_long n system buffers rows are_buffers bytes are i hi in (are.each i hi).each k (omega (arith, size, hk)) (omega (arith, size, hk))
-
-pub row_vector : (n : ℕ) (system : Equations) (buffers rows : List (List ℕ)) → AreSolutionBuffers system buffers → system.bytes ≡ 2 * n → AreByteRows rows buffers (length buffers) → (i : ℕ) → i < length buffers → IsVector n (list_at rows i)
-row_vector n system buffers rows are_buffers bytes are i h = (
-  row_long n system buffers rows are_buffers bytes are i h,
-  all_from (λ y. y < 65536) 0 (list_at rows i) (λ k low.
-      let here : k < n = (let size = row_long n system buffers rows are_buffers bytes are i h in omega (arith, size, low)) in
-      subst (λ y. y < 65536) (row_read n system buffers rows are_buffers bytes are i k h here) (word-lt (list_at buffers i) k (bytes_at buffers are_buffers.bytes i))),
-)
-
--- if a row times the buffers is a unit vector, the row times their elements is a row of the identity
-pub unit_product : (m n j k : ℕ) (row : List ℕ) (buffers rows : List (List ℕ)) → length row ≤ m → AllByRecursion (λ c. c < 2 ^ 16) row → AllByRecursion (λ (content : List ℕ). AllByRecursion (λ b. b < 256) content) buffers
-    → ((i : ℕ) → i < m → word k (list_at buffers i) ≡ get_or (list_at rows i) k 0) → k < n → IsUnit n j (combination (2 * n) row buffers) → field_sum m (λ i. mul (get_or row i 0) (get_or (list_at rows i) k 0)) ≡ identity j k
-unit_product m n j k row buffers rows fit elements bytes read low is =
-    let unit = combination (2 * n) row buffers in
-    field_sum_same m (λ i. mul (get_or row i 0) (get_or (list_at rows i) k 0)) (λ i. mul (get_or row i 0) (word k (list_at buffers i))) (λ i hi. ap (mul (get_or row i 0)) (sym (read i hi)))
-    ∙ sym (dot_at m row buffers k fit)
-    ∙ (combination_words (2 * n) row buffers unit (omega arith) (λ p. dot-lt row (map (word p) buffers) elements (words_are p buffers bytes)) is.size (unit_bytes n j unit is)).0 refl k (omega (arith, low))
-    ∙ unit_word n j unit k is
-
-pub are_inverse : (lost exponents kept_ones : List ℕ) (system : Equations) (buffers rows : List (List ℕ)) → IsEliminated lost (length lost) exponents kept_ones system → IsTheSolution system buffers
-    → systems.rank system ≡ system.columns → AreByteRows rows buffers (length buffers) → IsInverseMatrix lost kept_ones rows
-are_inverse lost exponents kept_ones system buffers rows found solution full are =
-    let n : ℕ = length lost in
-    let count : length buffers ≡ n = solution.are_buffers.count ∙ found.columns in
-    let kept_count : length kept_ones ≡ n = ap (λ (ks : List ℕ). length ks) found.are_kept ∙ sym found.rank ∙ full ∙ found.columns in
+-- sums by coefficients are products with their matrix
+pub coefficient_products : (co : ℕ → ℕ → ℕ) (n m size : ℕ) (sources sums : List (List ℕ)) → length sources ≡ m → AreSums size n (λ w r. field_sum m (λ s. mul (co r s) (word w (list_at sources s)))) sums
+    → AreProducts size (map (λ r. map (co r) (range_with_len 0 m)) (range_with_len 0 n)) sources sums
+coefficient_products co n m size sources sums sources_count are =
+    let matrix : List (List ℕ) = map (λ r. map (co r) (range_with_len 0 m)) (range_with_len 0 n) in
+    let many : length matrix ≡ n = length-map-range_with_len (λ r. map (co r) (range_with_len 0 m)) 0 n in
+    let coefficient_at : (r s : ℕ) → r < n → s < m → get_or (list_at matrix r) s 0 ≡ co r s = λ r s low here.
+    ap (λ xs. get_or xs s 0) (get_or-map-range_with_len (λ i. map (co i) (range_with_len 0 m)) 0 n r r [] low (omega arith))
+    ∙ get_or-map-range_with_len (co r) 0 m s s 0 here (omega arith) in
     record {
-      square = kept_count;
-      count = are.count ∙ count;
-      vectors = λ i h. row_vector n system buffers rows solution.are_buffers found.bytes are i (omega (arith, h, count));
-      product = λ j k hj hk.
-          let e : ℕ = get_or kept_ones j 0 in
-          let fit : length (coefficients lost e) ≤ n = (let long = length-map lost (coefficient e) in omega (arith, long)) in
-          unit_product n n j k (coefficients lost e) buffers rows fit (coefficients_are e lost) solution.are_buffers.bytes (λ i hi. row_read n system buffers rows solution.are_buffers found.bytes are i k (omega (arith, hi, count)) hk) hk
-          (found.solves buffers solution.are_buffers solution.solves j (omega (arith, hj, kept_count)) hj);
+      count = are.count ∙ sym many;
+      sizes = λ r low. are.sizes r (omega (arith, low, many));
+      words = λ r w low fits.
+          are.words r w (omega (arith, low, many)) fits
+          ∙ field_sum_same m (λ s. mul (co r s) (word w (list_at sources s))) (λ s. mul (get_or (list_at matrix r) s 0) (word w (list_at sources s)))
+          (λ s here. ap (λ x. mul x (word w (list_at sources s))) (sym (coefficient_at r s (omega (arith, low, many)) here)))
+          ∙ ap (λ k. products k matrix sources r w) (sym sources_count);
     }
-
--- ---- the exponents' matrix times the inverse times some elements is these elements
-
-pub gives_back : (lost es : List ℕ) (inverse made : List (List ℕ)) (w : ℕ) (s : ℕ → ℕ) → IsInverseMatrix lost es inverse → GivesElements s
-    → ((i : ℕ) → i < length lost → word w (list_at made i) ≡ field_sum (length lost) (λ j. mul (get_or (list_at inverse i) j 0) (s j)))
-    → (j : ℕ) → j < length lost → dot (coefficients lost (get_or es j 0)) (map (word w) made) ≡ s j
-gives_back lost es inverse made w s is are made_is j low =
-    let n = length lost in
-    let row = coefficients lost (get_or es j 0) in
-    let x = λ (i k : ℕ). get_or (list_at inverse i) k 0 in
-    dot_at n row made w (let long = length-map lost (coefficient (get_or es j 0)) in omega (arith, long))
-    ∙ field_sum_same n (λ i. mul (get_or row i 0) (word w (list_at made i))) (λ i. mul (get_or row i 0) (field_sum n (λ k. mul (x i k) (s k)))) (λ i hi. ap (mul (get_or row i 0)) (made_is i hi))
-    ∙ combined n n (λ i. get_or row i 0) x s (coefficients-lt lost (get_or es j 0)) (λ i hi. all_at (λ z. z < 65536) 0 (omega arith) (list_at inverse i) (is.vectors i hi).1) are
-    ∙ field_sum_same n (λ k. mul (field_sum n (λ i. mul (get_or row i 0) (x i k))) (s k)) (λ k. mul (identity j k) (s k)) (λ k hk. ap (λ z. mul z (s k)) (is.product j k low hk))
-    ∙ sum_of_row n j s low are
 
 -- The lost slices by their syndromes, one block of columns after the other.
 

@@ -1,5 +1,5 @@
 -- A list of all slices, known and lost ones, and the equations of the lost ones; what survives, and the lost slices that solve them.
-use Rattle.par2_solve.proofs.Common.{ℕ, zero, suc, ◌+◌, ◌-◌, ◌*◌, ◌%◌, ◌<◌, ◌≤◌, ◌≡◌, refl, sym, ap, ap₂, ◌∙◌, arith, List, [], ◌∷◌, length, length-append, replicate, get_or, map, bit_xor, length-replicate, length-map, Bor, Option, Some, None, is_none, filter, range_with_len, enumerate_from, AllByRecursion, AllZip, xor_assoc, xor_zero_l, xor_comm, product-zero, mul, coefficient, padded, word, coefficients, combination, dot, recovery, lost, xor_off, coefficients_are, dot-lt, words_are, combination_words, all-append, all_from, recovered, known_of, with_lost_slices, lost_from, known_alone, bytes_or_none, AreByteLists, ◌≢◌, subst, Bool, cond, eqb, eq-eqb, ne_eqb, get_or-map, Result, IfErr, AllPairs-from_increasing, all_unmap, list_at, CanRebuild, known_among, recovered_of, exponents_of, IsRepairable, Agrees, kept_slices, all_get, all-filter, agreeing_are_one, AreRebuilt, syndrome, AreSolved, ForSome, none-some, same_Some, IfErr-weaker, bytes-zeros, all_weaker, by_test, all-both, TwoListsAgree, AnotherAlwaysAgrees, IsFaultOf, TwoAlwaysAgree, RebuildFault, NotRepairable, Memory, Inverts, IsInverseOf, Inverse, Rows, Located, Filled}
+use Rattle.par2_solve.proofs.Common.{ℕ, zero, suc, ◌+◌, ◌-◌, ◌*◌, ◌%◌, ◌<◌, ◌≤◌, ◌≡◌, refl, sym, ap, ap₂, ◌∙◌, arith, List, [], ◌∷◌, length, length-append, replicate, get_or, map, bit_xor, length-replicate, length-map, Bor, Option, Some, None, is_none, filter, range_with_len, enumerate_from, AllByRecursion, AllZip, xor_assoc, xor_zero_l, xor_comm, product-zero, mul, coefficient, padded, word, coefficients, combination, dot, recovery, lost, xor_off, coefficients_are, dot-lt, words_are, combination_words, all-append, all_from, recovered, known_of, with_lost_slices, lost_from, known_alone, bytes_or_none, AreByteLists, ◌≢◌, subst, Bool, cond, eqb, eq-eqb, ne_eqb, get_or-map, Result, IfErr, AllPairs-from_increasing, all_unmap, list_at, CanRebuild, known_among, recovered_of, exponents_of, IsRepairable, Agrees, kept_slices, all_get, all-filter, agreeing_are_one, AreRebuilt, syndrome, AreSolved, ForSome, none-some, same_Some, IfErr-weaker, bytes-zeros, all_weaker, by_test, all-both, TwoListsAgree, AnotherAlwaysAgrees, IsFaultOf, TwoAlwaysAgree, RebuildFault, NotRepairable, Memory, Inverts, IsInverseOf, Inverse, Rows, Located, Filled, IsStrictlyIncreasing}
 use Rattle.par2_solve.proofs.Combinations.{word-padded, recovered_dot}
 use Rattle.par2_spec.specs.Rank as ranks
 use Rattle.par2_solve.specs.declared.rebuild_slices.Survivors as code
@@ -28,6 +28,22 @@ length-lost_from a bound [] h = omega arith
 length-lost_from a bound (Some x ∷ known) h = length-lost_from (a + 1) bound known (omega arith)
 length-lost_from a zero (None ∷ known) h = absurd (omega arith)
 length-lost_from a (suc bound) (None ∷ known) h = let rest = length-lost_from (a + 1) bound known (omega arith) in omega (arith, rest)
+
+lost_above : {A : Type 0} (a : ℕ) (known : List (Option A)) (i : ℕ) → i < length (lost_from a known) → a ≤ get_or (lost_from a known) i 0
+lost_above a [] i h = absurd (omega (arith, h))
+lost_above a (Some x ∷ known) i h = let rest = lost_above (a + 1) known i h in omega (arith, rest)
+lost_above a (None ∷ known) zero h = omega arith
+lost_above a (None ∷ known) (suc i) h = let rest = lost_above (a + 1) known i (omega (arith, h)) in omega (arith, rest)
+
+pub lost_rise : {A : Type 0} (a : ℕ) (known : List (Option A)) → IsStrictlyIncreasing (lost_from a known)
+lost_rise a [] k h = absurd (omega (arith, h))
+lost_rise a (Some x ∷ known) k h = lost_rise (a + 1) known k h
+lost_rise a (None ∷ known) zero h =
+    let e : 0 + 1 ≡ suc 0 = omega arith in
+    subst (λ n. a < get_or (a ∷ lost_from (a + 1) known) n 0) (sym e) (omega (arith, lost_above (a + 1) known 0 (omega (arith, h))))
+lost_rise a (None ∷ known) (suc k) h =
+    let e : suc k + 1 ≡ suc (k + 1) = omega arith in
+    subst (λ n. get_or (lost_from (a + 1) known) k 0 < get_or (a ∷ lost_from (a + 1) known) n 0) (sym e) (lost_rise (a + 1) known k (omega (arith, h)))
 
 -- ---- all slices from the known and the lost ones
 

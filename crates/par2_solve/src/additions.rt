@@ -12,13 +12,13 @@ ghost use Rattle.par2_transform.specs.Chirps.{recovered};
 ghost use Rattle.par2_solve.specs.BufferContents.{AddsRecovery, AreConsecutive, byte_lists, AreWithin, IsSpanOf, picked};
 ghost use Rattle.par2_solve.specs.Rebuilding.{AreWritten, AreZeros};
 
-use crate::exponents::coefficients;
 use crate::products::{
-    BLOCK, Size, blank, buffer_at, buffers_fit, fit_lists, products_of, source_at, windows,
+    BLOCK, Size, blank, buffers_fit, fit_lists, products_of, source_at, windows,
 };
 use crate::room::whole_room;
 use crate::targets::{Recovered, Targets};
 use par2_gf16::Gf;
+use par2_matrix::{buffer_at, coefficients};
 use par2_spec::Result;
 use par2_transform::{Columns, Places, Transform, whole_buffers};
 use std::alloc::Global;

@@ -8,6 +8,7 @@ ghost use Rattle.par2_spec.specs.Prelude.{mul, list_at, lists_of};
 ghost use Rattle.par2_solve.specs.BufferContents.{Adds, AddsSource, AreBlank, AreByteLists, AreProducts, HaveAtLeast, byte_lists, chunk};
 
 use par2_gf16::{Factor, WordVector, vectors_of};
+use par2_matrix::{buffer_at, fit_bytes};
 use par2_spec::Result;
 use std::alloc::Global;
 
@@ -61,16 +62,7 @@ fn add_source(
     }
 }
 
-/// The bytes of buffer `r`. For a list of borrowed buffers, it is `source_at`.
-#[inline(always)]
-pub(crate) fn buffer_at(buffers: &[Vec<u8>], r: usize) -> &[u8]
-    requires { r < length buffers.now }
-    ensures { result.now ≡ list_at (lists_of buffers.now) r }
-{
-    &buffers[r]
-}
-
-/// The bytes of borrowed buffer `k`.
+/// The bytes of borrowed buffer `k`. For a list of vectors, it is `buffer_at`.
 #[inline(always)]
 pub(crate) fn source_at<'a>(sources: &[&'a [u8]], k: usize) -> &'a [u8]
     requires { k < length sources.now }
@@ -206,12 +198,4 @@ pub(crate) fn fit_lists(buffers: &[Vec<u8>])
     for i in 0..buffers.len() {
         fit_bytes(buffer_at(buffers, i));
     }
-}
-
-/// For the prover: each byte is less than 256.
-#[inline(always)]
-pub(crate) fn fit_bytes(bytes: &[u8])
-    ensures { (k : ℕ) → slice_index bytes.now k < 2 ^ 8 }
-{
-    let _ = bytes.len();
 }

@@ -10,12 +10,12 @@ ghost use Rattle.par2_spec.specs.Prelude.{lists_of};
 ghost use Rattle.par2_transform.specs.Rows.{HaveWords};
 
 use crate::additions::with_recovery_slices;
-use crate::exponents::{Exponents, Lost};
 use crate::inverse::{Inverse, Inversion, invert};
-use crate::products::{Size, borrowed, buffer_at, buffers_fit, fit_bytes, fit_lists, windows};
+use crate::products::{Size, borrowed, buffers_fit, fit_lists, windows};
 use crate::room::{columns_at_once, rows_room};
 use crate::targets::Recovered;
 use par2_gf16::Gf;
+use par2_matrix::{Exponents, Lost, buffer_at, fit_bytes};
 use par2_spec::Result;
 use par2_spec::rank_laws::{another_list_agrees, two_lists_agree};
 use par2_transform::Transform;

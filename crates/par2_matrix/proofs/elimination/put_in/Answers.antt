@@ -10,14 +10,14 @@ loop-p-preserved g c =
     elim c.if-not-is_empty.branch [
       | then-not-is_empty w ↦
           rw (w.rows-is, w.right_sides-is)
-          (clear_step c.args.q l.p w.new-factor.result c.args.row.items c.args.right.items c.list_at-target.result.now rows right_sides (lists_of l.rows) (lists_of l.right_sides) (lists_of w.add_row.new.lists) (lists_of w.add_row-then-not-is_empty.new.lists)
-          l.invariant c.list_at-target.ensures (w.new-factor.ensures ∙ w.element.ensures) w.add_row.ensures.changed (rw w.deref.ensures.value at w.add_row.ensures.added)
+          (clear_step c.args.q l.p w.new-factor.result c.args.row.items c.args.right.items c.buffer_at-target.result.now rows right_sides (lists_of l.rows) (lists_of l.right_sides) (lists_of w.add_row.new.lists) (lists_of w.add_row-then-not-is_empty.new.lists)
+          l.invariant c.buffer_at-target.ensures (w.new-factor.ensures ∙ w.element.ensures) w.add_row.ensures.changed (rw w.deref.ensures.value at w.add_row.ensures.added)
           w.add_row-then-not-is_empty.ensures.changed (rw w.deref-then-not-is_empty.ensures.value at w.add_row-then-not-is_empty.ensures.added) w.add_row-then-not-is_empty.ensures.bytes)
       | else-not-is_empty w ↦
-          let none : length c.list_at-target.result.now ≡ 0 = search rules in
+          let none : length c.buffer_at-target.result.now ≡ 0 = search rules in
           rw (w.rows-is, w.right_sides-is)
-          (clear_pass c.args.q l.p c.args.row.items c.args.right.items c.list_at-target.result.now rows right_sides (lists_of l.rows) (lists_of l.right_sides)
-          l.invariant c.list_at-target.ensures none (c.requires.1.1.absent l.p))
+          (clear_pass c.args.q l.p c.args.row.items c.args.right.items c.buffer_at-target.result.now rows right_sides (lists_of l.rows) (lists_of l.right_sides)
+          l.invariant c.buffer_at-target.ensures none (c.requires.1.1.absent l.p))
     ]
 
 pub returns : goal.returns

@@ -1,5 +1,0 @@
-use Rattle.par2_solve.specs.BufferContents.{AreHoleEquations}
-use Rattle.par2_solve.proofs.holes.hole_system.Given as goal
-
-abbrev pub invariant-loop-u : goal.invariant-loop-u
-invariant-loop-u l = AreHoleEquations l.locator l.places l.units l.u l.system

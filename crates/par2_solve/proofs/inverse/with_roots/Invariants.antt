@@ -1,5 +1,0 @@
-use Rattle.par2_solve.proofs.Common.{◌≡◌, drop, with_roots}
-use Rattle.par2_solve.proofs.inverse.with_roots.Given as goal
-
-abbrev pub invariant-loop-i : goal.invariant-loop-i
-invariant-loop-i l = l.p.items ≡ with_roots (drop l.i l.points)
