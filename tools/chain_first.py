@@ -5,8 +5,9 @@ usage: chain_first.py [--anew]     prove all, and take nothing of what an earlie
 
 The gate's own order fits many proofs, tests and edits: a proof gets one process while others wait, and keeps it. Where only
 libraries are proved, the last ones of the longest chain would run alone. So the crate for which the longest chain waits, by
-tools/seconds.txt, begins first. If no crate that runs has a longer one, several processes share its proof. Sharing
-costs two thirds more processor time, so each other crate gets one process, and as many crates as processors run at a time.
+tools/seconds.txt, begins first. If no crate that runs has a longer one, the processors that nothing else waits for share its
+proof, if they are at least FEWEST: two processes are hardly faster than one. No more processes than processors run at a
+time: sharing costs half as much processor time again, and with more it made the longest chain slower.
 
 The gate also searches each proved library for contracts that no call can meet. `make test` does so, and a build needn't.
 """
@@ -17,6 +18,9 @@ from concurrent.futures import FIRST_COMPLETED, ThreadPoolExecutor, wait
 
 import rt_module
 from prove import SHARERS, processors, seconds_of_crates
+
+# The fewest processes that share a proof.
+FEWEST = 3
 
 
 def chains_of(tasks):
@@ -34,15 +38,16 @@ def chains_of(tasks):
 def next_one(tasks, chains, begun, running, memory):
     """Returns the task that begins now and how many processes share it, or None."""
     ready = [it for it in tasks if it not in begun and all(below in begun and below not in running for below in tasks[it][0])]
-    if not ready:
+    idle = processors() - sum(running.values())
+    if not ready or idle < 1:
         return None
     first = max(ready, key=chains.get)
     # (processes that share a proof share most of its memory, and take less than the gate plans for one)
-    room = memory - sum(tasks[it][2] for it in running)
-    if running and (len(running) >= processors() or tasks[first][2] > room):
+    if running and tasks[first][2] > memory - sum(tasks[it][2] for it in running):
         return None
     is_urgent = chains[first] == max(chains[it] for it in [*ready, *running])
-    return first, min(SHARERS, processors()) if is_urgent else 1
+    shared = min(SHARERS, idle - len(ready) + 1) if is_urgent else 1
+    return first, shared if shared >= FEWEST else 1
 
 
 def in_lanes(memory):
@@ -51,17 +56,17 @@ def in_lanes(memory):
     processes share it."""
 
     def lanes(tasks):
-        chains, begun, running, given, futures = chains_of(tasks), set(), set(), {}, {}
+        chains, begun, running, given, futures = chains_of(tasks), set(), {}, {}, {}
         with ThreadPoolExecutor(len(tasks)) as pool:
             while len(given) < len(tasks):
                 while begins := next_one(tasks, chains, begun, running, memory):
                     it, shared = begins
                     begun.add(it)
-                    running.add(it)
+                    running[it] = shared
                     futures[pool.submit(tasks[it][3], dict(given), shared)] = it
                 for ended in wait(futures, return_when=FIRST_COMPLETED).done:
                     it = futures.pop(ended)
-                    running.remove(it)
+                    del running[it]
                     given[it] = ended.result()
         return given
 

@@ -25,7 +25,7 @@ import rt_module
 
 # The most processes that share a proof, what sharing costs, and the part that can't be shared; and how much longer several
 # processors take than the least time, because crates wait for each other.
-SHARERS, SHARING, ALONE, WAITING = 4, 1.65, 0.2, 1.4
+SHARERS, SHARING, ALONE, WAITING = 4, 1.65, 0.3, 1.2
 ANEW = ["--anew"] if os.environ.get("PROVE_ANEW") == "1" else []
 TOP = os.path.join(os.path.dirname(os.path.realpath(__file__)), "..")
 PROVED = re.compile(r"rt: (\w+) (proved$|is kept: )")
