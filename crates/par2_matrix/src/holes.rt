@@ -6,7 +6,7 @@
 //! to 0. A window has as many of these equations as it has holes. If they are independent, the sums of the exponents
 //! determine those of the holes, the window becomes a run, and the exponents determine the lost slices.
 
-ghost use Rattle.std.specs.Prelude.{◌≡◌, ℕ, ◌+◌, ◌<◌, ◌≤◌, IfOk, IfSome, IsTrue, length};
+ghost use Rattle.std.specs.Prelude.{◌≡◌, ◌+◌, ◌<◌, ◌≤◌, IfOk, IfSome, IsTrue, length};
 ghost use Rattle.par2_spec.specs.Prelude.{IsRepairable, lists_of};
 ghost use Rattle.par2_matrix.specs.LostSlices.{AreHoleEquations, AreHoleInverse, AreOrigins, IsOriginAt, holes, shifted, shifted_at, span};
 

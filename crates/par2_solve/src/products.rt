@@ -2,7 +2,7 @@
 //! each row, each source times its factor in the row. `products_of` makes targets of zeros. `add_matrix_product` passes over
 //! blocks of columns, `add_columns` over the sources and `add_source` over the targets.
 
-ghost use Rattle.std.specs.Prelude.{◌≡◌, ℕ, ◌+◌, ◌-◌, ◌*◌, ◌%◌, ◌^◌, ◌<◌, ◌≤◌, length, map, slice_index, IfOk};
+ghost use Rattle.std.specs.Prelude.{◌≡◌, ◌+◌, ◌-◌, ◌*◌, ◌%◌, ◌^◌, ◌<◌, ◌≤◌, length, map, slice_index, IfOk};
 ghost use Rattle.par2_gf16.specs.Words.{AddsEach, word_of};
 ghost use Rattle.par2_spec.specs.Prelude.{mul, list_at, lists_of};
 ghost use Rattle.par2_solve.specs.BufferContents.{Adds, AddsSource, AreBlank, AreByteLists, AreProducts, HaveAtLeast, byte_lists, chunk};
