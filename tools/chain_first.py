@@ -7,7 +7,7 @@ The gate's own order fits many proofs, tests and edits: a proof gets one process
 libraries are proved, the last ones of the longest chain would run alone. So the crate for which the longest chain waits, by
 tools/seconds.txt, begins first. If no crate that runs has a longer one, the processors that nothing else waits for share its
 proof, if they are at least FEWEST: two processes are hardly faster than one. No more processes than processors run at a
-time: sharing costs half as much processor time again, and with more it made the longest chain slower.
+time: sharing costs half to two thirds as much processor time again, and with more it made the longest chain slower.
 
 The gate also searches each proved library for contracts that no call can meet. `make test` does so, and a build needn't.
 """
