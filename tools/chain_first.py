@@ -6,8 +6,8 @@ usage: chain_first.py [--anew]     prove all, and take nothing of what an earlie
 The gate's own order fits many proofs, tests and edits: a proof gets one process while others wait, and keeps it. Where only
 libraries are proved, the last ones of the longest chain would run alone. So the crate for which the longest chain waits, by
 tools/seconds.txt, begins first. If no crate that runs has a longer one, the processors that nothing else waits for share its
-proof, if they are at least FEWEST: two processes are hardly faster than one. No more processes than processors run at a
-time: sharing costs half to two thirds as much processor time again, and with more it made the longest chain slower.
+proof: two processes take about two thirds of the time of one, four about half. No more processes than processors run at a
+time, because then each takes more processor time for the same work.
 
 The gate also searches each proved library for contracts that no call can meet. `make test` does so, and a build needn't.
 """
@@ -18,9 +18,6 @@ from concurrent.futures import FIRST_COMPLETED, ThreadPoolExecutor, wait
 
 import rt_module
 from prove import SHARERS, processors, seconds_of_crates
-
-# The fewest processes that share a proof.
-FEWEST = 3
 
 
 def chains_of(tasks):
@@ -46,8 +43,7 @@ def next_one(tasks, chains, begun, running, memory):
     if running and tasks[first][2] > memory - sum(tasks[it][2] for it in running):
         return None
     is_urgent = chains[first] == max(chains[it] for it in [*ready, *running])
-    shared = min(SHARERS, idle - len(ready) + 1) if is_urgent else 1
-    return first, shared if shared >= FEWEST else 1
+    return first, max(1, min(SHARERS, idle - len(ready) + 1)) if is_urgent else 1
 
 
 def in_lanes(memory):
