@@ -43,7 +43,9 @@ def next_one(tasks, chains, begun, running, memory):
     if running and tasks[first][2] > memory - sum(tasks[it][2] for it in running):
         return None
     is_urgent = chains[first] == max(chains[it] for it in [*ready, *running])
-    return first, max(1, min(SHARERS, idle - len(ready) + 1)) if is_urgent else 1
+    # (the other tasks are tests and edits; a copy for a build has none, so they end at once)
+    others = [it for it in ready if it != first and it[1] == "proof"]
+    return first, max(1, min(SHARERS, idle - len(others))) if is_urgent else 1
 
 
 def in_lanes(memory):
