@@ -328,12 +328,12 @@ at_start scan found left filter batch tally before empty = record {
 }
 
 -- if no pair is open, no further offset changes a position
-pub none_left : (scan : Scan) (o n : ℕ) (found : List (Option Position)) (left : ℕ) (filter : Groups) (batch : List Candidate) → IsScannedTo scan o found left filter batch → left ≡ 0 → IsScannedTo scan (o + n) found left filter batch
-none_left scan o zero found left filter batch at none =
-    subst (λ (k : ℕ). IsScannedTo scan k found left filter batch) (let e : o ≡ o + 0 = omega arith in e) at
-none_left scan o (suc n) found left filter batch at none =
-    subst (λ (k : ℕ). IsScannedTo scan k found left filter batch) (let e : o + n + 1 ≡ o + suc n = omega arith in e)
-    (no_more scan (o + n) found left filter batch (crc_of scan (o + n)) (none_left scan o n found left filter batch at none) refl
+pub none_left : (scan : Scan) (o n end : ℕ) (found : List (Option Position)) (left : ℕ) (filter : Groups) (batch : List Candidate) → IsScannedTo scan o found left filter batch → left ≡ 0 → o + n ≡ end → IsScannedTo scan end found left filter batch
+none_left scan o zero end found left filter batch at none is =
+    subst (λ (k : ℕ). IsScannedTo scan k found left filter batch) (let e : o ≡ end = omega (arith, is) in e) at
+none_left scan o (suc n) end found left filter batch at none is =
+    subst (λ (k : ℕ). IsScannedTo scan k found left filter batch) (let e : o + n + 1 ≡ end = omega (arith, is) in e)
+    (no_more scan (o + n) found left filter batch (crc_of scan (o + n)) (none_left scan o n (o + n) found left filter batch at none refl) refl
     (λ i h same none_yet. none_counted (Option Position) is_none found i None (sym at.tally.count ∙ none) (omega (arith, h, at.tally.len)) (ap is_none none_yet)))
 
 -- at the end, with an empty batch

@@ -1,7 +1,6 @@
 //! Whether files are intact, by their lengths and the checksums of their slices, and which of the candidates is a target's match.
 
 ghost use Rattle.std.specs.Prelude.{◌≡◌, ◌↔◌, ◌≤◌, ◌<◌, ◌+◌, ℕ, List, All, IfOk, IsTrue, length};
-ghost use Rattle.std.specs.List.{range_with_len};
 ghost use Rattle.std.specs.Option.{ForSome};
 ghost use Rattle.par2_spec.specs.Prelude.{Folder};
 ghost use Rattle.par2_spec.specs.Search as search;
@@ -96,13 +95,6 @@ pub struct Target<'a> {
     pub pairs: &'a [Pair],
 }
 
-// The numbers below `n`: those of all buffers, which are free at first.
-fn numbers_below(alloc: Global, n: usize) -> Result<Vec<usize>>
-    ensures { IfOk result (λ numbers. numbers.items ≡ range_with_len 0 n) }
-{
-    (0..n).collect(alloc)
-}
-
 // The CRC-32 of the file's first slice, if some target has the length of the file; otherwise no target needs it.
 fn first_crc32(bytes: &[u8], s: u64, targets: &[Target]) -> Option<u32>
     requires { 1 ≤ s }
@@ -185,6 +177,20 @@ fn take_first(files: Candidates, target: &Target, free: &mut Vec<usize>) -> Opti
     Some(first)
 }
 
+// The numbers of the targets' matches, in order: `matched`, once the CRC-32s of the first slices are known.
+fn matched_in(alloc: Global, files: Candidates, targets: &[Target]) -> Result<Vec<Option<usize>>>
+    ensures { let its = files.entry in
+        IfOk result (λ numbers. (ts : List sets.Target) → Describe targets.now ts
+        → numbers.items ≡ matched_numbers its.s (buffers_of its.buffers.now) ts) }
+{
+    let mut free: Vec<usize> = (0..files.buffers.len()).collect(alloc)?;
+    let mut numbers = Vec::with_capacity(alloc, targets.len())?;
+    for target in targets {
+        numbers.push(take_first(files, target, &mut free))?;
+    }
+    Ok(numbers)
+}
+
 /// For each target, in order, the number of the first buffer that is intact for it. Each buffer is used once.
 pub fn matched(
     alloc: Global,
@@ -198,13 +204,7 @@ pub fn matched(
 {
     let firsts = first_crc32s(alloc, buffers, s, targets)?;
     let firsts = firsts.as_slice();
-    let files = Candidates { buffers, firsts, s };
-    let mut free = numbers_below(alloc, buffers.len())?;
-    let mut numbers = Vec::with_capacity(alloc, targets.len())?;
-    for target in targets {
-        numbers.push(take_first(files, target, &mut free))?;
-    }
-    Ok(numbers)
+    matched_in(alloc, Candidates { buffers, firsts, s }, targets)
 }
 
 /// For the prover: if names are distinct, the matches by the numbers of their files are those by their names.

@@ -60,7 +60,6 @@ struct Row {
 }
 
 /// The CRC-32s of the first windows of four stretches of `LEN` offsets each, from offset `start` on: the first row.
-#[tactic(auto, using(crate::proofs::Matches::whole_window))]
 fn first_crcs<const LEN: usize>(bytes: &[u8], s: u64, start: usize) -> [u32; 4]
     requires { start + 3 * LEN + s ≤ length bytes.now }
     ensures { AreCrcs s bytes.now start LEN 0 result }

@@ -13,5 +13,4 @@ offsets_alone s bytes (pair ∷ pairs) = ap₂ (λ (o : Option ℕ) os. o ∷ os
 
 pub returns : goal.returns
 returns c =
-    let positions = c.deref.ensures.value ∙ c.in_ok-positions.ensures in
-    IfOk-weaker c.offsets_of.result _ _ (λ offsets e. e ∙ ap (map (option_map (λ position. position.offset))) positions ∙ offsets_alone c.args.s c.args.bytes.now c.args.wanted.now) c.offsets_of.ensures
+    IfOk-weaker c.offsets_of.result _ _ (λ offsets e. e ∙ ap (map (option_map (λ position. position.offset))) (c.deref.ensures.value ∙ c.in_ok-positions.ensures) ∙ offsets_alone c.args.s c.args.bytes.now c.args.wanted.now) c.offsets_of.ensures

@@ -8,10 +8,9 @@ returns-then-not-is_whole c =
     let o : ℕ = c.args.offset in
     let before = c.args.self.now in
     let after = c.answer.new.self in
-    let digest_is = c.padded_md5-md5.ensures ∙ ap₂ (λ s bytes. md5 (padded s bytes)) c.size.ensures.value c.window.ensures in
     subst (λ (batch : List Candidate). IsScannedTo scan (o + 1) after.found.items after.left after.filter batch) (sym c.answer.ensures.batch)
     (compared scan o before.found.items after.found.items before.left after.left before.filter after.filter before.batch.items c.padded_md5-md5.result c.args.crc
-    c.requires.window.at (c.requires.short (λ whole. let both : true ≡ false = sym (c.is_whole.ensures.1 whole) ∙ c.if-not-is_whole.true in cc)) digest_is c.requires.window.crc c.answer.ensures.tally c.answer.ensures.each)
+    c.requires.window.at (c.requires.short (λ whole. let both : true ≡ false = sym (c.is_whole.ensures.1 whole) ∙ c.if-not-is_whole.true in cc)) (c.padded_md5-md5.ensures ∙ ap₂ (λ s bytes. md5 (padded s bytes)) c.size.ensures.value c.window.ensures) c.requires.window.crc c.answer.ensures.tally c.answer.ensures.each)
 
 -- the candidate is the last of the batch
 pushed_at : (c : After-push) → IsScannedTo c.args.scan.now (c.args.offset + 1) c.args.self.now.found.items c.args.self.now.left c.args.self.now.filter c.push.new.self.items

@@ -1,4 +1,4 @@
-use Rattle.par2_slices.proofs.Names.{◌≡◌, ℕ, rules, refl, List, length, subst, arith, Option, Pair, Position, IsTally, IsFilled, filled_more, none_answered}
+use Rattle.par2_slices.proofs.Names.{◌≡◌, ℕ, rules, refl, List, length, subst, arith, Option, Pair, Position, IsTally, IsFilled, filled_more, none_answered, common_steps}
 use Rattle.par2_slices.proofs.search.Search.new.Goals as goal
 
 pub returns-clause-tally : goal.returns-clause-tally
@@ -12,3 +12,6 @@ pub loop-pair-preserved : goal.loop-pair-preserved
 loop-pair-preserved c =
     filled_more c.pairs-pairs.result.now c.loop-pair.pair-index c.loop-pair.filter c.insert.new.self c.loop-pair.invariant c.loop-pair-test.true _
     c.insert.ensures.shift c.insert.ensures.included c.insert.ensures.kept c.insert.ensures.only (search rules)
+
+pub returns-clause-open : goal.returns-clause-open
+returns-clause-open c = grind (arith, common_steps)

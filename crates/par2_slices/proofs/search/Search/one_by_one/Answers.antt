@@ -1,4 +1,4 @@
-use Rattle.par2_slices.proofs.Names.{◌≡◌, ◌∙◌, ◌+◌, ◌-◌, ◌≤◌, ℕ, List, get_or, refl, ap, subst, arith, get_or-drop, drop, length, rules, take, IsScannedTo, drop_min, take_rest, none_left, slid_window}
+use Rattle.par2_slices.proofs.Names.{◌≡◌, ◌∙◌, ◌+◌, ◌-◌, ◌≤◌, ℕ, List, get_or, refl, ap, subst, arith, get_or-drop, drop, length, rules, take, drop_min, take_rest, none_left, slid_window, common_steps}
 use Rattle.par2_slices.proofs.search.Search.one_by_one.Goals as goal
 
 pub loop-offset-preserved : goal.loop-offset-preserved
@@ -17,7 +17,7 @@ loop-offset-preserved c =
 pub returns-then-self-eq0 : goal.returns-then-self-eq0
 returns-then-self-eq0 c =
     let search = c.loop-offset.self in
-    let o : ℕ = c.loop-offset.offset in
-    let end : ℕ = c.args.end in
-    subst (λ (o : ℕ). IsScannedTo c.args.scan.now o search.found.items search.left search.filter search.batch.items) (let e : o + (end - o) ≡ end = omega (arith, c.loop-offset-test.true) in e)
-    (none_left c.args.scan.now o (end - o) search.found.items search.left search.filter search.batch.items c.loop-offset.invariant.at c.if-self-eq0.true)
+    none_left c.args.scan.now c.loop-offset.offset (c.args.end - c.loop-offset.offset) c.args.end search.found.items search.left search.filter search.batch.items c.loop-offset.invariant.at c.if-self-eq0.true (omega arith)
+
+pub padded_crc32-crc-requires : goal.padded_crc32-crc-requires
+padded_crc32-crc-requires c = grind (arith, common_steps)
