@@ -23,7 +23,6 @@ pub use Rattle.par2_spec.proofs.AcceptedCommands.{create_applies}
 pub use Rattle.par2_spec.proofs.Common.{common_steps, length-md5}
 pub use Rattle.par2_spec.proofs.EarlyLaws.{refused_early}
 pub use Rattle.par2_spec.proofs.FolderLaws.{create_leads}
-pub use Rattle.par2_spec.proofs.ListsLaws.{answered_so, never_found}
 pub use Rattle.par2_spec.proofs.WrittenSets.{recovery_length}
 pub use Rattle.par2_spec.specs.Prelude.{recovery_bytes, recovery_packets, list_at, Change, create_changes, recovery, lists_of, create_args_of, are_applicable, effects}
 unfoldable pub use Rattle.par2_spec.specs.Prelude.{volumes, after, changes_of}

@@ -1,4 +1,3 @@
 mod Common
 mod VolumeLaws
-mod Steps
 mod Names

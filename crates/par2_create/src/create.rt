@@ -1,6 +1,6 @@
 //! Plans a create: the changes that write its outputs, or the fault for which it is refused. `plan_create` checks the
 //! arguments and the inputs, describes the inputs, names the volumes, and lists the changes.
-#![tactic(auto, using(crate::proofs::Steps::create))]
+#![tactic(auto)]
 
 ghost use Rattle.std.specs.Prelude.{◌≡◌, map, string_bytes, IfOk, None, ◌++◌, OnOk, ◌≤◌, IsTrue};
 ghost use Rattle.par2_spec.specs.Prelude.{create_args_of, bad_name, after, effects, are_applicable, Create, FailsFor, changes_of, FailsAs, RefusesEarly, SucceedsAs};

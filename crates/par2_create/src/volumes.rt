@@ -1,6 +1,6 @@
 //! The bytes of volumes. Their packets are laid out first, with zeros for recovery slices and MD5s. The recovery slices
 //! are computed in place, all at once, and the MD5s are filled in at the end.
-#![tactic(auto, using(crate::proofs::Steps::volumes))]
+#![tactic(auto)]
 
 ghost use Rattle.std.specs.Prelude.{◌≡◌, ◌+◌, length, map, IfOk, OnOk, ◌≤◌};
 ghost use Rattle.par2_spec.specs.Answers.{Appends};

@@ -6,13 +6,13 @@ pub use Rattle.std.proofs.lemmas.Iterator.Adapters.{fact_from_collect, fact_from
 pub use Rattle.std.proofs.lemmas.Iterator.Consumers.{YieldsList-at, YieldsList-from_filter, YieldsList-from_filter_map, map_from_collect}
 pub use Rattle.std.proofs.lemmas.List.{drop_more, length-map, map-append, map_more, take_all, take_more}
 pub use Rattle.std.proofs.lemmas.List.Elements.{filter-append, filter_agree, filter_more}
-pub use Rattle.std.proofs.lemmas.Option.{MatchOption-at_some, slice_get-get_or}
+pub use Rattle.std.proofs.lemmas.Option.{slice_get-get_or}
 pub use Rattle.std.proofs.lemmas.Result.{IfOk-weaker, err_from_is_err_and}
 pub use Rattle.std.specs.BTreeMap.{BTreeMap, get}
 pub use Rattle.std.specs.BTreeSet.{BTreeSet, IsFromIterResult, contains}
 pub use Rattle.std.proofs.Math.Bool.{and-false, and-true}
 pub use Rattle.std.proofs.lemmas.Map.Views.{any-filter_same}
-pub use Rattle.par2_spec.proofs.Common.{and_parts, both_ways, eq-eqb, false_from_ne_true, ne_eqb, not-false, not-true, or_right, or_left, eqb-true, or_parts, list_all-map, list_any-append, map-map, bytes_eq-Decides, slice_cmp, AllByRecursion, IsDistinct, cons_option, enumerate_from, list_all, list_any, position_from, range_with_len, eq_by_cmp, nat_cmp, bytes_eq, Pair, Verify, Folder, bytes_of, has, distinct, is_among, rank, absent_file, names_without_match, IsVerdictIn, Report, is_complete, incomplete_state, verdict_of, candidates, intact_names, is_incomplete, lost, incomplete, incomplete_names, survivors, ParSet, Target, all_pairs, set_of, found, is_eq-slice_cmp}
+pub use Rattle.par2_spec.proofs.Common.{IsStrictlyIncreasing, and_parts, both_ways, eq-eqb, false_from_ne_true, ne_eqb, not-false, not-true, or_right, or_left, eqb-true, or_parts, list_all-map, list_any-append, map-map, bytes_eq-Decides, slice_cmp, AllByRecursion, IsDistinct, cons_option, enumerate_from, list_all, list_any, position_from, range_with_len, eq_by_cmp, nat_cmp, bytes_eq, Pair, Verify, Folder, bytes_of, has, distinct, is_among, rank, absent_file, names_without_match, IsVerdictIn, Report, is_complete, incomplete_state, verdict_of, candidates, intact_names, is_incomplete, lost, incomplete, incomplete_names, survivors, ParSet, Target, all_pairs, set_of, found, is_eq-slice_cmp}
 pub use Rattle.par2_spec.specs.Prelude.{option_map_or, HoldsNames, Complete, TargetReport, lookup}
 pub use Rattle.par2_spec.specs.declared.Fault.{Fault}
 pub use Rattle.par2_spec.specs.declared.Fault.TheVariants.{Memory, NoSuchFile}

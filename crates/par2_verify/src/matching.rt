@@ -3,12 +3,13 @@
 //! files of the remaining names.
 //! `candidates` has the names of the files that a verify and a repair search.
 
-ghost use Rattle.std.specs.Prelude.{◌≡◌, ℕ, List, not, map, filter, IfOk, option_and_then, slice_get};
+ghost use Rattle.std.specs.Prelude.{◌≡◌, ◌≤◌, ℕ, List, not, map, filter, IfOk, option_and_then, slice_get};
 ghost use Rattle.std.specs.List.{IsDistinct};
 ghost use Rattle.std.specs.Str.{bytes_eq};
 ghost use Rattle.par2_spec.specs.Prelude.{intact_names, Lists, is_among, distinct, HoldsNames, names_without_match};
 ghost use Rattle.par2_sets.specs.SetReading.{HoldsOwned};
 ghost use Rattle.par2_verify.specs.Findings.{HoldsMatches};
+ghost use Rattle.par2_slices.specs.Matching.{buffers_of, matched_numbers};
 ghost use Rattle.par2_spec.specs.Search as search;
 
 use par2_files::{Folder, Name};
@@ -86,6 +87,20 @@ fn free_names<'n>(alloc: Global, intact: BTreeSet<&'n Name>, names: &'n [Name]) 
     Ok(free)
 }
 
+// For each target the number of the file that is its match, if it has one, for slices of `s` bytes.
+fn numbers_of(alloc: Global, s: u64, files: &[&[u8]], ts: &[&Target]) -> Result<Vec<Option<usize>>>
+    requires { 1 ≤ s }
+    ensures { let targets = map (λ t. t.now) ts.now in
+        Lists (matched_numbers s (buffers_of files.now) targets) result }
+{
+    let targets = ts.iter().map(|target| par2_slices::Target {
+        length: target.length(),
+        pairs: target.pairs(),
+    });
+    let targets: Vec<par2_slices::Target> = targets.collect(alloc)?;
+    matched(alloc, files, s, &targets)
+}
+
 // The name with this number, counted from 0 in the searched names, if the target has a match.
 fn name_at(names: &[Name], number: Option<usize>) -> Option<Name>
     ensures { result ≡ option_and_then (slice_get names.now) number }
@@ -109,12 +124,7 @@ pub fn matches<'s>(
     let (incomplete, intact) = parted(alloc, folder, set)?;
     let free = free_names(alloc, intact, candidates)?;
     let buffers = folder.bytes_of_each(&free)?;
-    let targets = incomplete.iter().map(|target| par2_slices::Target {
-        length: target.length(),
-        pairs: target.pairs(),
-    });
-    let targets: Vec<par2_slices::Target> = targets.collect(alloc)?;
-    let numbers = matched(alloc, &buffers, set.slice_size(), &targets)?;
+    let numbers = numbers_of(alloc, set.slice_size(), &buffers, &incomplete)?;
     let numbered = incomplete.iter().zip(&numbers);
     let matches = numbered.map(|(target, number)| Incomplete {
         target,
@@ -138,11 +148,8 @@ pub fn matches_by_name(alloc: Global, incomplete: &[Incomplete]) -> Result<Match
     ensures { IsDistinct bytes_eq (map (λ m. m.0.name) incomplete.now)
         → IfOk result (HoldsMatches incomplete.now) }
 {
-    let matches = incomplete.iter().map(|one| (
-        one.target.name().copied(),
-        one.found.as_ref().map(Name::copied),
-    ));
-    matches.collect(alloc)
+    let named = |m: &Incomplete| (m.target.name().copied(), m.found.as_ref().map(Name::copied));
+    incomplete.iter().map(named).collect(alloc)
 }
 
 // Each name once, in the order of first occurrence: an extra file may be named twice or be a target.

@@ -36,9 +36,8 @@ fn first_absent(folder: &Folder, words: &[String]) -> Option<usize>
         ≡ position (λ word. not (has folder.now.files (string_bytes word))) words.now }
     ensures fits { IfSome result (λ place. place < usize.MAX) }
 {
-    words
-        .iter()
-        .position(|word| present(folder, word).is_none())
+    let is_absent = |word: &String| present(folder, word).is_none();
+    words.iter().position(is_absent)
 }
 
 // The name of the base, if it and all extra words are names of files in the folder. `NoSuchFile` has the number of the

@@ -39,16 +39,13 @@ fn report_of(alloc: Global, folder: &Folder, set: &ParSet, extras: &[Name]) -> R
     let unmatched = unmatched(alloc, &incomplete)?;
     let lost = lost_pairs(alloc, folder, set, &unmatched, &candidates)?;
     let matches = matches_by_name(alloc, &incomplete)?;
-    let targets = set.targets().iter();
-    let reports = targets.map(|target| target_report(folder, target, &matches, &lost));
-    let targets = reports.collect(alloc)?;
-    let pairs = all_pairs(alloc, set)?;
-    let numbers = lost_numbers(alloc, &pairs, &lost)?;
-    let rank = rank_of(alloc, set, &numbers)?;
+    let report = |target: &Target| target_report(folder, target, &matches, &lost);
+    let targets = set.targets().iter().map(report).collect(alloc)?;
+    let (count, rank) = count_and_rank(alloc, set, &lost)?;
     Ok(Report {
         set_id: set.id(),
         targets,
-        lost: numbers.len(),
+        lost: count,
         rank,
     })
 }
@@ -114,9 +111,8 @@ pub struct Report {
 fn are_complete(targets: &[TargetReport]) -> bool
     ensures { result ≡ list_all (λ target. is_complete (state_view target.state)) targets.now }
 {
-    targets
-        .iter()
-        .all(|target| matches!(target.state, State::Complete))
+    let is_complete = |target: &TargetReport| matches!(target.state, State::Complete);
+    targets.iter().all(is_complete)
 }
 
 impl Report {
@@ -196,12 +192,12 @@ fn lost_numbers(alloc: Global, pairs: &[Pair], lost: &BTreeSet<Pair>) -> Result<
 fn exponents(alloc: Global, recovery: &[(u32, &[u8])]) -> Result<Vec<u32>>
     ensures { IfOk result (λ list. list.items ≡ map (λ slice. slice.0) recovery.now) }
 {
-    recovery.iter().map(|slice| slice.0).collect(alloc)
+    let exponents = recovery.iter().map(|slice| slice.0);
+    exponents.collect(alloc)
 }
 
 // The rank of the set's recovery slices in the lost slices of these numbers: how many of their equations are linearly
 // independent. The field's tables are built only if runs of exponents don't determine it.
-#[tactic(auto, using(crate::proofs::Steps::rank_of))]
 fn rank_of(alloc: Global, set: &ParSet, lost: &[u32]) -> Result<usize>
     ensures { IfOk result (λ n. n ≡ ranks.rank lost.now (survivors set.now)) }
 {
@@ -210,6 +206,17 @@ fn rank_of(alloc: Global, set: &ParSet, lost: &[u32]) -> Result<usize>
         Some(rank) => Ok(rank),
         None => rank_by_equations(alloc, &Gf::new(alloc)?, lost, &exponents),
     }
+}
+
+// How many slices of the set are lost, those with these checksums, and the rank of its recovery slices in them.
+fn count_and_rank(alloc: Global, set: &ParSet, lost: &BTreeSet<Pair>) -> Result<(usize, usize)>
+    requires { length (all_pairs set.now) ≤ 32768 }
+    ensures { let numbers = numbers_of_lost 0 (contains count_cmp lost.now) (all_pairs set.now) in
+        let rank = ranks.rank numbers (survivors set.now) in
+        IfOk result (λ r. (r.0 ≡ length numbers) × (r.1 ≡ rank)) }
+{
+    let numbers = lost_numbers(alloc, &all_pairs(alloc, set)?, lost)?;
+    Ok((numbers.len(), rank_of(alloc, set, &numbers)?))
 }
 
 /// The checksums of all slices of a set, in order, by which the slices are searched.
@@ -227,7 +234,8 @@ fn sought_pairs(alloc: Global, set: &ParSet, names: &BTreeSet<Name>) -> Result<V
 {
     let targets = set.targets().iter();
     let sought = targets.filter(|target| names.contains(target.name()));
-    sought.flat_map(Target::pairs).copied().collect(alloc)
+    let pairs = sought.flat_map(Target::pairs);
+    pairs.copied().collect(alloc)
 }
 
 /// The checksums of those slices of the targets with these names that aren't found in the candidates.
@@ -248,9 +256,7 @@ pub fn lost_pairs(
     let pairs = sought_pairs(alloc, set, names)?;
     let buffers = folder.bytes_of_each(candidates)?;
     let windows = found_windows(alloc, &buffers, set.slice_size(), &pairs)?;
-    let lost = pairs
-        .iter()
-        .zip(&windows)
-        .filter_map(|(pair, window)| window.is_none().then_some(*pair));
+    let both = pairs.iter().zip(&windows);
+    let lost = both.filter_map(|(pair, window)| window.is_none().then_some(*pair));
     lost.collect(alloc)
 }

@@ -18,4 +18,4 @@ returns c = λ once.
     IfOk-weaker c.collect.result _ _ (λ tree is. λ name. is.0 name
     ∙ update_all_none laws _ is_eq-slice_cmp (map by_name ms) name (subst (IsDistinct bytes_eq) (sym (map-map (λ (e : List ℕ × Option (List ℕ)). e.0) by_name ms)) once) ∙ looked_up ms name)
     (fact_from_collect (IsFromIterResult (slice_cmp nat_cmp)) c.collect.result c.collect.ensures.ran
-    (YieldsList-from_map _ by_name (YieldsList-from_slice ms cc) c.map-matches.ensures.closure (λ x r q k. search (rules, tests))))
+    (YieldsList-from_map _ by_name (YieldsList-from_slice ms cc) c.map.ensures.closure (λ x r q k. search (rules, tests))))

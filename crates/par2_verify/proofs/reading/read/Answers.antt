@@ -1,4 +1,4 @@
-use Rattle.par2_verify.proofs.Names.{◌≡◌, ◌⊎◌, ◌∙◌, ◌∷◌, [], ℕ, List, Bool, inl, inr, map, refl, sym, ap, Err, Result, Fault, Memory, ParSet, set_of, set_in, err_from_is_err_and, err_again, answered_so, cond, rules, tests, string_bytes, subst, Global, true, false, filter, filter_map, is_some, IfOk, IfSome, Option, String, Some, cons_option, Folder, has, YieldsList-from_slice, items_from_collect, YieldsList-from_filter_map, None, all_there, unread, all_present, is_early, not_early, Returns, Reading}
+use Rattle.par2_verify.proofs.Names.{arith, ◌≡◌, ◌⊎◌, ◌∙◌, ◌∷◌, [], ℕ, List, Bool, inl, inr, map, refl, sym, ap, Err, Result, Fault, Memory, ParSet, set_of, set_in, err_from_is_err_and, err_again, answered_so, cond, rules, tests, string_bytes, subst, Global, filter, filter_map, is_some, IfOk, IfSome, Option, String, Some, Folder, has, YieldsList-from_slice, items_from_collect, YieldsList-from_filter_map, None, all_there, unread, all_present, is_early, not_early, Returns, Reading}
 use Rattle.par2_verify.proofs.reading.read.Goals.{In_ok-base, In_ok-extras}
 use Rattle.par2_verify.proofs.reading.read.Goals as goal
 
@@ -7,19 +7,12 @@ abbrev named : Folder → String Global → Option (List ℕ)
 named folder word = cond (has folder (string_bytes word)) (Some (string_bytes word)) None
 
 is_named : (o : Option (List ℕ)) (b : Bool) (name : List ℕ) → is_some o ≡ b → IfSome o (λ n. n ≡ name) → o ≡ cond b (Some name) None
-is_named None true name v e = absurd (let no : ⊥ = cc in no)
-is_named None false name v e = refl
-is_named (Some n) true name v e = ap Some e
-is_named (Some n) false name v e = absurd (let no : ⊥ = cc in no)
+is_named None b name v e = ap (λ b. cond b (Some name) None) v
+is_named (Some n) b name v e = ap Some e ∙ ap (λ b. cond b (Some name) None) v
 
 present : (folder : Folder) (words : List (String Global)) → filter_map (named folder) words ≡ filter (has folder) (map string_bytes words)
 present folder [] = refl
-present folder (word ∷ words) = step (has folder (string_bytes word)) (present folder words)
-  where
-    step : (b : Bool) → filter_map (named folder) words ≡ filter (has folder) (map string_bytes words)
-        → cons_option (cond b (Some (string_bytes word)) None) (filter_map (named folder) words) ≡ cond b (string_bytes word ∷ filter (has folder) (map string_bytes words)) (filter (has folder) (map string_bytes words))
-    step true e = ap (λ names. string_bytes word ∷ names) e
-    step false e = e
+present folder (word ∷ words) = grind (arith, present folder words)
 
 listed : (c : In_ok-extras) → c.in_ok-extras.extras.items ≡ filter_map (named c.args.folder.now.files) c.args.extras.now
 listed c =

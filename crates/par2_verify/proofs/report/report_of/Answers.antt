@@ -1,4 +1,4 @@
-use Rattle.par2_verify.proofs.Names.{set_in, ◌≡◌, ◌∙◌, List, ℕ, Ok, sym, ap, ap₂, subst, map, flat_map, filter, is_none, list_any, eq_by_cmp, IsDistinct, bytes_eq, IfOk, map_from_collect, YieldsList-from_map_by, YieldsList-from_slice, rules, rank, survivors, all_pairs, pairs_sought, numbers_of_lost, said_of, target_report_of, Pair, candidates, matches, contains, slice_cmp, nat_cmp, filter_agree, found, bytes_of, is_among, names_without_match, Option, Target, HoldsMatches, count_cmp, answered, is_sought, once, std_from_distinct, distinct_once}
+use Rattle.par2_verify.proofs.Names.{set_in, ◌≡◌, ◌∙◌, List, ℕ, Ok, refl, sym, ap, ap₂, subst, map, flat_map, filter, is_none, list_any, eq_by_cmp, IsDistinct, bytes_eq, IfOk, map_from_collect, YieldsList-from_map_by, YieldsList-from_slice, rules, pairs_sought, said_of, target_report_of, Pair, candidates, matches, contains, slice_cmp, nat_cmp, filter_agree, found, bytes_of, is_among, names_without_match, Option, Target, HoldsMatches, count_cmp, answered, is_sought, once, std_from_distinct, distinct_once}
 use Rattle.par2_verify.proofs.report.report_of.Goals.{In_ok-matches}
 use Rattle.par2_verify.proofs.report.report_of.Goals as goal
 
@@ -31,10 +31,8 @@ returns c = λ base reads.
     let is_lost = contains count_cmp c.in_ok-lost.lost in
     let said : map target_report_of c.in_ok-targets.targets.items ≡ map (said_of c.args.folder.now.files c.in_ok-matches.matches is_lost) set.targets =
     subst (λ r. IfOk r (λ list. map target_report_of list.items ≡ map (said_of c.args.folder.now.files c.in_ok-matches.matches is_lost) set.targets)) c.in_ok-targets.was
-    (map_from_collect c.collect.result c.collect.ensures.ran (YieldsList-from_map_by _ target_report_of (said_of c.args.folder.now.files c.in_ok-matches.matches is_lost) (YieldsList-from_slice set.targets cc) c.map-reports.ensures.closure (λ x r q k. search rules))) in
-    let numbers : c.in_ok-numbers.numbers.items ≡ numbers_of_lost 0 is_lost (all_pairs set) = c.in_ok-numbers.ensures ∙ ap (numbers_of_lost 0 is_lost) (c.deref-5.ensures.value ∙ c.in_ok-pairs.ensures) in
-    answered c.args.folder.now.files base c.args.extras.now set reads c.in_ok-matches.matches is_lost (held at base reads) (lost_are at) c.id.result _ c.in_ok-numbers.numbers.items c.len.result c.in_ok-rank.rank c.id.ensures said numbers (search rules)
-    (c.in_ok-rank.ensures ∙ ap (λ ns. rank ns (survivors set)) c.deref-6.ensures.value)
+    (map_from_collect c.collect.result c.collect.ensures.ran (YieldsList-from_map_by _ target_report_of (said_of c.args.folder.now.files c.in_ok-matches.matches is_lost) (YieldsList-from_slice set.targets cc) c.map.ensures.closure (λ x r q k. search rules))) in
+    answered c.args.folder.now.files base c.args.extras.now set reads c.in_ok-matches.matches is_lost (held at base reads) (lost_are at) c.id.result _ _ c.in_ok-count.count c.in_ok-count.rank c.id.ensures said refl c.in_ok-count.ensures.0 c.in_ok-count.ensures.1
 
 pub matches-requires : goal.matches-requires
 matches-requires c = subst (IsDistinct bytes_eq) (sym (c.deref.ensures.value ∙ c.in_ok-candidates.ensures)) (std_from_distinct _ (distinct_once _))
