@@ -453,27 +453,8 @@ adds_to_group from to words other all old new order fits apart added = record {
         ∙ ap₂ (λ a b. a + 256 * b) (kept t (at + 2 * p) low apart_from (omega arith) (omega (arith, room))) (kept t (at + (2 * p + 1)) low apart_from (omega arith) (omega (arith, room)))
         ∙ sym (word_from at p (list_at old (place_at all t).buffer))
 
--- one more group
-pub next_group : (places : List Place) (len : ℕ) (size total n to : ℕ) (other : ℕ → ℕ → ℕ) (was half buffers : List (List ℕ)) → n * size < total → to ≡ n * size + min size (total - n * size)
-    → AddsAt places len (λ t p. within 0 (min total (n * size)) t (other t p)) was half → AddsAt places len (λ t p. within (n * size) to t (other t p)) half buffers
-    → AddsAt places len (λ t p. within 0 (min total ((n + 1) * size)) t (other t p)) was buffers
-next_group places len size total n to other was half buffers low place so_far added =
-    let here : min total (n * size) ≡ n * size = omega (arith, low) in
-    let next : (n + 1) * size ≡ n * size + size = omega arith in
-    let there : to ≡ min total ((n + 1) * size) = omega (arith, place, next, low) in
-    subst (λ m. AddsAt places len (λ t p. within 0 m t (other t p)) was buffers) there
-    (adds_range (λ t p. t) other 0 (n * size) to (subst (λ m. AddsAt places len (λ t p. within 0 m t (other t p)) was half) here so_far) added (omega arith) (omega (arith, place)))
-
--- all of them
-pub all_groups : (places : List Place) (len : ℕ) (size total n : ℕ) (other : ℕ → ℕ → ℕ) (was buffers : List (List ℕ)) → total ≤ n * size → length places ≡ total
-    → AddsAt places len (λ t p. within 0 (min total (n * size)) t (other t p)) was buffers → AddsAt places len other was buffers
-all_groups places len size total n other was buffers enough count added = adds_whole (λ t p. t) other (min total (n * size)) added (λ t p h fits. omega (arith, enough, count, h))
-
-pub no_group : (places : List Place) (len : ℕ) (size total : ℕ) (other : ℕ → ℕ → ℕ) (buffers : List (List ℕ)) → AddsAt places len (λ t p. within 0 (min total (0 * size)) t (other t p)) buffers buffers
-no_group places len size total other buffers = adds_empty (λ t p. t) other 0 (min total (0 * size)) (omega arith)
-
 -- what `auto` is given for the code
-pub ruleset group_steps = (group_within, length-group, no_group, all_groups, begins, still_within, are_whole, whole_apart)
+pub ruleset group_steps = (group_within, length-group, begins, still_within, are_whole, whole_apart)
 
 -- From power sums in rows to the outputs of a block.
 

@@ -1,5 +1,5 @@
 -- Rows of words: vectors added to them, their columns, runs of rows transformed by halves, and lists of points.
-use Rattle.par2_transform.proofs.Common.{replicate, zero, [], inl, inr, ℕ, ◌++◌, ◌+◌, ◌-◌, ◌*◌, ◌/◌, ◌%◌, ◌<◌, ◌≤◌, ◌≡◌, refl, sym, ap, ap₂, ◌∙◌, arith, List, length, length-append, length-take-le, length-drop, length-set, get_or, get_or_past, get_or_append_left, get_or-append_right, get_or-drop, get_or-set_other, get_or-set_same, get_or-take, set, take, drop, bit_xor, AreRewritten, cases_eq, cases_lt, subst, word, word_in, word_of, WordVector, AddsToRun, CopiesVectors, IsButterfly, SameValuesOutside, AreTwoRuns, HaveFirst, suc, ◌^◌, ◌⊎◌, add-mul, one-mul, Vec, Global, xor_zero_l, with_items_is, mul_assoc, mul_comm, within, Grid, column, with_items, GivesElements, AreCopied, AreRows, IsAdded, EachColumn, RunAddedBy, IsRun, pow-suc, pow-le-pow_right, xor_comm, xor_lt, xor_zero_r, xor_self, xor_assoc, xor_off, mul, pow, field_sum, field_sum_same, zero-product, product-one, product_comm, point, vanishing, member, power_sum, ArePowerSums, IsMerged, from, IsListed, AreListedValues, OneRun, min, length-take, in_vector, combined, IsSplit, IsHalved, IsCombination}
+use Rattle.par2_transform.proofs.Common.{replicate, zero, [], inl, inr, ℕ, ◌++◌, ◌+◌, ◌-◌, ◌*◌, ◌/◌, ◌%◌, ◌<◌, ◌≤◌, ◌≡◌, refl, sym, ap, ap₂, ◌∙◌, arith, List, length, length-append, length-take-le, length-drop, length-set, get_or, get_or_past, get_or_append_left, get_or-append_right, get_or-drop, get_or-set_other, get_or-set_same, get_or-take, set, take, drop, bit_xor, AreRewritten, cases_eq, cases_lt, subst, word, word_in, word_of, WordVector, AddsToRun, CopiesVectors, IsButterfly, SameValuesOutside, AreTwoRuns, HaveFirst, suc, ◌^◌, ◌⊎◌, add-mul, one-mul, Vec, Global, xor_zero_l, with_items_is, mul_assoc, mul_comm, within, Grid, column, with_items, GivesElements, AreCopied, AreRows, IsAdded, EachColumn, RunAddedBy, IsRun, pow-suc, pow-le-pow_right, xor_comm, xor_lt, xor_zero_r, xor_self, xor_assoc, xor_off, mul, pow, field_sum, field_sum_same, zero-product, product-one, product_comm, point, vanishing, member, power_sum, ArePowerSums, IsMerged, from, IsListed, AreListedValues, OneRun, length-take, in_vector, combined, IsSplit, IsHalved, IsCombination}
 use Rattle.std.proofs.Common.{mul-le-mul_right}
 use Rattle.par2_transform.proofs.Additions.{within-in, within-above, within_same, within_zero}
 use Rattle.par2_transform.proofs.Subspaces.{point-lt, first_half, second_half, vanishing_on, point_odd, merged_power_sums}

@@ -1,7 +1,7 @@
 -- The names that answers take from elsewhere and from the lemmas.
 
 pub use Rattle.par2_gf16.proofs.Words.{in_vector}
-pub use Rattle.par2_transform.proofs.Additions.{OutputsAdded, WordsAdded, added_to_output, adds_same, adds_to_group, all_words, are_whole, begins, columns_within, group_of, next_group, next_output, next_words, no_words, power_sum_plain, whole_apart, wider_fit, words_added, no_output, all_outputs, still_within, no_group, all_groups, group_within}
+pub use Rattle.par2_transform.proofs.Additions.{OutputsAdded, WordsAdded, added_to_output, adds_same, adds_to_group, all_words, are_whole, begins, columns_within, group_of, next_output, next_words, no_words, power_sum_plain, whole_apart, wider_fit, words_added, no_output, all_outputs, still_within, group_within, adds_empty, adds_range, adds_whole, length-group}
 pub use Rattle.par2_transform.proofs.BlockLaws.{AddedSoFar, BlocksMade, ClassesAdded, WindowsWeighed, all_classes, block_part, class_added, is_block_at, next_added, next_becomes, next_block, next_class, next_weighed, no_class, none_added, nothing_added, nothing_so_far, one_set, one_window_more, tabulated, values_of_window, none_weighed, weight_rows, windows_weighed}
 pub use Rattle.par2_transform.proofs.Chirps.{AreFound, all_found, bit_of, coprimes_below-mono, enough_found, none_found, one_found, power_behind_rounds}
 pub use Rattle.par2_transform.proofs.Common.{Adds, AddsAt, AddsToRun, AheadAdded, AreApart, AreCopied, AreListedValues, ArePowerSums, AreTwoRuns, AreValues, Bool, Bor, CopiesVectors, CoverOutputs, EachColumn, Gathers, GivesElements, Global, Grid, HasSize, HaveFirst, IfOk-weaker, IsAdded, IsButterfly, IsCleared, IsRaised, IsMerged, IsSpreadAbove, IsSpreadBelow, IsWeighed, Keeps, List, OneRun, Outputs, Place, Places, RowsGathered, RunAdded, RunAddedBy, Tabulates, Vec, WordVector, YieldsList-from_map, YieldsList-from_range, [], add_assoc, ap, ap₂, arith, bit_at, bit_xor, byte_lists, chirp, chirp_inverse, class_sum_at, coefficients_from, column, coprimes_below, cut_of, div_ceil, div_ceil_times, drop, false, field_sum_same, from, get_or, get_or_default, if◌then◌else◌, in_coset, inl, inr, is_coprime, items_from_collect, length, length-lists_of, length-map, length-replicate, list_at, listed_by, lists_of, map-append, min, mul, numerator, numerator_word, quotient_word, place_at, point, pow, pow_mono, pow_pos, powers_in, quotient_sum, read_at, recovered, refl, rules, set, slice_index, subst, suc, sum_ahead, sym, take, times, true, value, vanishing, with_items, with_items_is, within, word, word_in, word_of, words_at, zero-add, zero-product, ℕ, ◌%◌, ◌*◌, ◌++◌, ◌+◌, ◌-◌, ◌/◌, ◌<◌, ◌^◌, ◌∙◌, ◌∷◌, ◌≡◌, ◌≤◌, mul-le-mul_right, pow-le-pow_right, xor_comm}

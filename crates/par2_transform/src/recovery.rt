@@ -96,12 +96,12 @@ impl<'a> Transform<'a> {
     {
         let at_once = outputs_at_once(self.room);
         let count = outputs.len();
-        for k in 0..count.div_ceil(at_once) {
-            let from = k * at_once;
+        let mut from = 0;
+        while from < count {
             let to = from + at_once.min(count - from);
             let group = outputs.part(from, to);
-            let first = first + from as u32;
-            self.add_group(alloc, first, buffers, &group)?;
+            self.add_group(alloc, first + from as u32, buffers, &group)?;
+            from = to;
         }
         Ok(())
     }

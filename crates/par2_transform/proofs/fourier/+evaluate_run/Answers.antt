@@ -1,4 +1,4 @@
-use Rattle.par2_transform.proofs.Names.{ℕ, suc, ◌+◌, ◌-◌, ◌*◌, ◌^◌, ◌≡◌, ◌∙◌, subst, arith, point, AreListedValues, EachColumn, Grid, OneRun, column, from, listed_by, false≢true, IsSplit, each_of, each_unchanged, BothHalves, both_halves, evaluated_run, listed_of_first, lower_half, run_in_field, run_kept, upper_half, unchanged_run, value_of_one}
+use Rattle.par2_transform.proofs.Names.{ℕ, suc, ◌+◌, ◌-◌, ◌*◌, ◌^◌, ◌≡◌, ◌∙◌, subst, arith, AreListedValues, EachColumn, Grid, OneRun, column, from, listed_by, false≢true, IsSplit, each_of, each_unchanged, BothHalves, both_halves, evaluated_run, listed_of_first, lower_half, run_in_field, run_kept, upper_half, unchanged_run, value_of_one}
 use Rattle.par2_transform.proofs.fourier.+evaluate_run.Goals.{else-i-gt0-via-then-i-gt0+else-has_wanted, else-i-gt0-via-else-i-gt0}
 use Rattle.par2_transform.proofs.fourier.+evaluate_run.Goals as goal
 

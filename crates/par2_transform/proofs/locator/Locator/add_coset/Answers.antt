@@ -1,4 +1,4 @@
-use Rattle.par2_transform.proofs.Names.{◌+◌, ◌-◌, ◌*◌, ◌/◌, ◌%◌, ◌^◌, ◌<◌, ◌≤◌, ◌≡◌, ◌∙◌, List, ℕ, ap, subst, slice_index, AddsAt, AreCopied, AreListedValues, EachColumn, sym, arith, rules, length, get_or, get_or_default, mul, lists_of, byte_lists, words_at, within, column, in_coset, quotient_word, next_point, given_is, less_rows, number_in_coset, point_outside, point_taken, shifted_most}
+use Rattle.par2_transform.proofs.Names.{◌+◌, ◌-◌, ◌*◌, ◌/◌, ◌%◌, ◌^◌, ◌<◌, ◌≤◌, ◌≡◌, ◌∙◌, List, ℕ, ap, subst, slice_index, AddsAt, AreCopied, AreListedValues, EachColumn, sym, arith, rules, length, get_or, get_or_default, mul, lists_of, byte_lists, within, column, in_coset, quotient_word, next_point, given_is, less_rows, number_in_coset, point_outside, point_taken, shifted_most}
 use Rattle.par2_transform.proofs.locator.Locator.add_coset.Goals.{then-number-self, else-number-self}
 use Rattle.par2_transform.proofs.locator.Locator.add_coset.Goals as goal
 
