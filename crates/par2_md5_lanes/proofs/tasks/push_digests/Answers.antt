@@ -14,7 +14,8 @@ loop-k-preserved c =
     let there : k < length pendings = omega (arith, c.loop-k-test.true, c.in_ok-pendings.ensures.count) in
     let none = some_pending pendings k there in
     let takes = c.in_ok-pendings.ensures.each k none there in
-    let is : c.digest.result ≡ md5 (get_or buffers k []) = c.digest.ensures _ ((rw c.deref.ensures.value at c.absorb_each-states.ensures) k [] none _ there takes.0) ∙ ap md5 takes.1 in
+    let reported = rw c.deref.ensures.value at c.absorb_each-states.ensures in
+    let is : c.digest.result ≡ md5 (get_or buffers k []) = c.digest.ensures _ (reported k [] none _ there takes.0) ∙ ap md5 takes.1 in
     c.in_ok-push.ensures.items
     ∙ ap (λ ds. ds ++ c.digest.result ∷ []) c.loop-k.invariant
     ∙ append_assoc c.args.all.now.items (map md5 (take k buffers)) (c.digest.result ∷ [])

@@ -9,13 +9,17 @@ at_number s buffers t i d result within is = ap (is_intact s t) (get_or-map (λ 
 pub returns-then-is_intact_by : goal.returns-then-is_intact_by
 returns-then-is_intact_by c t h =
     let n : ℕ = c.loop-i.i-index in
-    sym (first_here c.args.files.s (buffers_of c.args.files.buffers.now) t c.args.free.now n c.loop-i-test.true (at_number c.args.files.s c.args.files.buffers.now t (get_or c.args.free.now n 0) _ c.is_intact_by.result (c.requires n 0 c.loop-i-test.true) (c.is_intact_by.ensures t h) ∙ c.if-is_intact_by.true))
+    let i : ℕ = get_or c.args.free.now n 0 in
+    let within : i < length c.args.files.buffers.now = c.requires n 0 c.loop-i-test.true in
+    sym (first_here c.args.files.s (buffers_of c.args.files.buffers.now) t c.args.free.now n c.loop-i-test.true (at_number c.args.files.s c.args.files.buffers.now t i _ c.is_intact_by.result within (c.is_intact_by.ensures t h) ∙ c.if-is_intact_by.true))
     ∙ c.loop-i.invariant t h
 
 pub loop-i-preserved : goal.loop-i-preserved
 loop-i-preserved c t h =
     let n : ℕ = c.loop-i.i-index in
-    first_later c.args.files.s (buffers_of c.args.files.buffers.now) t c.args.free.now n c.loop-i-test.true (at_number c.args.files.s c.args.files.buffers.now t (get_or c.args.free.now n 0) _ c.is_intact_by.result (c.requires n 0 c.loop-i-test.true) (c.is_intact_by.ensures t h) ∙ c.if-is_intact_by.false)
+    let i : ℕ = get_or c.args.free.now n 0 in
+    let within : i < length c.args.files.buffers.now = c.requires n 0 c.loop-i-test.true in
+    first_later c.args.files.s (buffers_of c.args.files.buffers.now) t c.args.free.now n c.loop-i-test.true (at_number c.args.files.s c.args.files.buffers.now t i _ c.is_intact_by.result within (c.is_intact_by.ensures t h) ∙ c.if-is_intact_by.false)
     ∙ c.loop-i.invariant t h
 
 pub returns : goal.returns

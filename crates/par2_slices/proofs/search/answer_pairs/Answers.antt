@@ -1,4 +1,4 @@
-use Rattle.par2_slices.proofs.Names.{common_steps, ◌≡◌, ◌∙◌, ◌+◌, ℕ, List, false, true, set, ap, sym, subst, ◌==◌, Option, Some, None, eqb-true, and_parts, is_none, bytes_eq, Pair, answer_at, is_awaited, pair_at, pair_place_at, has_checksums, IsPlace, Position, PairPlace, none_from, arith}
+use Rattle.par2_slices.proofs.Common.{◌≡◌, ◌∙◌, ◌+◌, ℕ, List, false, true, set, ap, sym, subst, ◌==◌, Option, Some, None, eqb-true, and_parts, is_none, bytes_eq, Pair, answer_at, is_awaited, pair_at, pair_place_at, has_checksums, IsPlace, Position, PairPlace, none_from}
 use Rattle.par2_slices.proofs.Searching.{Settled, not_settled, one_settled, has_is, no_md5, not_awaited}
 use Rattle.par2_slices.proofs.search.answer_pairs.Goals as goal
 use Rattle.par2_slices.proofs.search.answer_pairs.Goals.{then-is_awaited+then-eq, else-is_awaited, else-is_awaited-via-then-is_awaited+else-eq, else-is_awaited-via-else-is_awaited}
@@ -40,6 +40,3 @@ loop-place-preserved c =
           ]
           )
     ]
-
-pub overflow_add-count : goal.overflow_add-count
-overflow_add-count c = grind (arith, common_steps)

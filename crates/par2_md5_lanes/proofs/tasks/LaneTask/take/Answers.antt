@@ -6,7 +6,8 @@ returns-in-None-clause-progress c hash =
     let task = c.args.self.now in
     let bytes = bytes_left task.feed in
     let n = c.args.count in
-    let room : n * 64 ≤ length bytes = omega (arith, c.requires.blocks c.in-None.is, length-append (at_hand task.feed) (message_of task.feed.parts.now)) in
+    let there : n * 64 ≤ length (at_hand task.feed) = c.requires.blocks c.in-None.is in
+    let room : n * 64 ≤ length bytes = omega (arith, there, length-append (at_hand task.feed) (message_of task.feed.parts.now)) in
     let taken = c.take_at_hand in
     record {
       leads = λ last rest. blocks_more task.hash task.rest bytes (bytes_left taken.new.self) taken.result.now hash last rest n (n * 64) c.in-None.is refl room
